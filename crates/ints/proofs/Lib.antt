@@ -1,0 +1,10 @@
+pub mod Bools
+pub mod Lists
+pub mod Parts
+pub mod Ring
+pub mod Polynomial
+pub mod Order
+pub mod Size
+pub mod Divides
+pub mod Floor
+pub mod Bits

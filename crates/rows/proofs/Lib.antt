@@ -1,0 +1,7 @@
+pub mod FormCells
+pub mod RowLaws
+pub mod TermLaws
+pub mod SumLaws
+pub mod Value
+pub mod Reached
+pub mod Sound

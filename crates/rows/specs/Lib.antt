@@ -1,0 +1,6 @@
+pub mod Limits
+pub mod Row
+pub mod Form
+pub mod Sum
+pub mod Conditions
+pub mod Truth

@@ -1,0 +1,10 @@
+pub mod Findings
+pub mod Withdrawal
+pub mod InForce
+pub mod Restored
+pub mod LiteralLaws
+pub mod TruthLaws
+pub mod RuleSound
+pub mod StandingLaws
+pub mod LinesTrue
+pub mod RunLaws

@@ -1,0 +1,283 @@
+-- A stream is cut into its records and nothing is lost; a run feeds them until the first that is refused, and counts those before it,
+-- of which all that they made stays.
+use mathlib.Core.Path.{_≡_, refl, sym, ap, subst, _∙_}
+use mathlib.Core.Bool.{Bool, true, false, cond}
+use mathlib.Core.List.{List, [], _∷_, _++_, flatten, reverse, reverseAux}
+use mathlib.Core.Logic.{inl, inr, _↔_}
+use Prim.Native.Nat.{ℕ, zero, suc, _+_, _≤_, _<_}
+use native.Mathlib.Omega.{arith}
+use lib.Dec.{T, leb, leb→le, lit≤}
+use lib.ListN.{length, take, drop, getD, length-append, length-drop, take-append-drop}
+use lib.Seq.{take-all}
+use Rattle.ints.specs.Tests.{all}
+use Rattle.ints.proofs.Bools.{T-and}
+use Rattle.ledger.specs.Ledger.{Ledger, fresh}
+use Rattle.ledger.specs.Record.{Record, make, OP, WD, FM, PM, RS, FK, TO, TR, EQ, TI, WK, CL, Made, Answer, accepted, refused, isAccepted}
+use Rattle.ledger.specs.Record.{RecordMark, fm, pm, rs, fk, to, tr, eq, ti, wk, cl, op, wd, layout}
+use Rattle.ledger.specs.Checks.{Check, countIn, checks}
+use Rattle.ledger.specs.Apply.{Finding, pass, fail, finding, Outcome, judged, done, made, apply}
+use Rattle.ledger.specs.Bytes.{byteAt, Bearing, unknown, bears, markOf, bytesFor, shapeOf, shape, decode, applyBytes}
+use Rattle.ledger.specs.Run.{frontBytes, front, split, recordsOf, Run, runFrom, run, fedAll, AllAccepted, Stops}
+use Rattle.ledger.specs.History.{afterBy, AcceptedBy, afterBytes, AcceptedBytes}
+
+-- ---- the records of a stream
+
+layout-positive : (m : RecordMark) → 1 ≤ layout m .bytes
+layout-positive fm = lit≤ tt
+layout-positive pm = lit≤ tt
+layout-positive rs = lit≤ tt
+layout-positive fk = lit≤ tt
+layout-positive to = lit≤ tt
+layout-positive tr = lit≤ tt
+layout-positive eq = lit≤ tt
+layout-positive ti = lit≤ tt
+layout-positive wk = lit≤ tt
+layout-positive cl = lit≤ tt
+layout-positive op = lit≤ tt
+layout-positive wd = lit≤ tt
+
+-- a record has a byte at least
+pub front-positive : (x : ℕ) (b : List ℕ) → 1 ≤ front (x ∷ b)
+unfolding front
+front-positive x b = go (markOf (x ∷ b))
+  where
+    either : (p : Bool) (i j : ℕ) → 1 ≤ i → 1 ≤ j → 1 ≤ cond p i j
+    either true i j h k = h
+    either false i j h k = k
+
+    go : (m : Bearing) → 1 ≤ frontBytes (x ∷ b) m
+    go unknown = omega arith
+    go (bears m) =
+        let some : (n : ℕ) → 1 ≤ bytesFor m n = λ n. omega (arith, layout-positive m) in
+        either (layout m .counted) _ _ (either (countIn m (byteAt (x ∷ b) 2)) _ _ (some _) (omega arith)) (some 0)
+
+abbrev frontRecord : List ℕ → List ℕ
+frontRecord b = take (front b) b
+
+abbrev afterFront : List ℕ → List ℕ
+afterFront b = drop (front b) b
+
+after-shorter : (x : ℕ) (b : List ℕ) (k : ℕ) → length (x ∷ b) ≤ suc k → length (afterFront (x ∷ b)) ≤ k
+after-shorter x b k h = rw (length-drop (front (x ∷ b)) (x ∷ b)) (omega (arith, front-positive x b))
+
+split-joins : (k : ℕ) (b : List ℕ) → length b ≤ k → flatten (split k b) ≡ b
+unfolding flatten split
+split-joins zero [] h = refl
+split-joins zero (x ∷ b) h = absurd (omega arith)
+split-joins (suc k) [] h = refl
+split-joins (suc k) (x ∷ b) h =
+    ap (λ r. frontRecord (x ∷ b) ++ r) (split-joins k (afterFront (x ∷ b)) (after-shorter x b k h)) ∙ take-append-drop (front (x ∷ b)) (x ∷ b)
+
+-- the records of a stream, joined, are the stream
+pub split-covers : (b : List ℕ) → flatten (recordsOf b) ≡ b
+split-covers b = split-joins (length b) b (omega arith)
+
+any-fuel : (j k : ℕ) (b : List ℕ) → length b ≤ j → length b ≤ k → split j b ≡ split k b
+unfolding split
+any-fuel zero zero b h i = refl
+any-fuel zero (suc k) [] h i = refl
+any-fuel zero (suc k) (x ∷ b) h i = absurd (omega arith)
+any-fuel (suc j) zero [] h i = refl
+any-fuel (suc j) zero (x ∷ b) h i = absurd (omega arith)
+any-fuel (suc j) (suc k) [] h i = refl
+any-fuel (suc j) (suc k) (x ∷ b) h i =
+    ap (λ r. frontRecord (x ∷ b) ∷ r) (any-fuel j k (afterFront (x ∷ b)) (after-shorter x b j h) (after-shorter x b k i))
+
+-- any number that is not too small gives the same records
+pub fuel-enough : (k : ℕ) (b : List ℕ) → length b ≤ k → split k b ≡ split (length b) b
+fuel-enough k b h = any-fuel k (length b) b h (omega arith)
+
+-- the front record, and then the records of what is left
+pub records-step : (x : ℕ) (b : List ℕ) → recordsOf (x ∷ b) ≡ take (front (x ∷ b)) (x ∷ b) ∷ recordsOf (drop (front (x ∷ b)) (x ∷ b))
+unfolding split
+records-step x b = ap (λ r. frontRecord (x ∷ b) ∷ r) (fuel-enough (length b) (afterFront (x ∷ b)) (after-shorter x b (length b) (omega arith)))
+
+-- ---- no refusal has the number 0
+
+numbered : List Check → Bool
+numbered cs = all (λ c. leb 1 (c .number)) cs
+
+shape-numbered : (b : List ℕ) → T (numbered (shape b))
+unfolding numbered shape
+shape-numbered b = go (markOf b)
+  where
+    go : (m : Bearing) → T (numbered (shapeOf b m))
+    go unknown = tt
+    go (bears m) = tt
+
+checks-numbered : (n : ℕ) (l : Ledger) (r : Record) → T (numbered (checks n l r))
+unfolding numbered checks
+checks-numbered n l (make (FM f)) = tt
+checks-numbered n l (make (PM xs)) = tt
+checks-numbered n l (make (RS p i j)) = tt
+checks-numbered n l (make (FK ts)) = tt
+checks-numbered n l (make (TO a b)) = tt
+checks-numbered n l (make (TR z u v)) = tt
+checks-numbered n l (make (EQ z a)) = tt
+checks-numbered n l (make (TI a b c)) = tt
+checks-numbered n l (make (WK z g)) = tt
+checks-numbered n l (make (CL ts)) = tt
+checks-numbered n l OP = tt
+checks-numbered n l WD = tt
+
+finding-positive : (cs : List Check) {k : ℕ} → T (numbered cs) → finding cs ≡ fail k → 0 < k
+unfolding numbered finding
+finding-positive [] t e = let z : _≡_ {A = ℕ} 0 1 = cc in omega arith
+finding-positive (c ∷ cs) {k} t e =
+    let u = T-and (leb 1 (c .number)) (numbered cs) t in
+    go (c .passes) e (leb→le 1 (c .number) (u .0)) (finding-positive cs (u .1))
+  where
+    go : (p : Bool) → cond p (finding cs) (fail (c .number)) ≡ fail k → 0 < c .number → (finding cs ≡ fail k → 0 < k) → 0 < k
+    go true e h rest = rest e
+    go false e h rest = let s : c .number ≡ k = cc in omega arith
+
+judged-positive : (cs : List Check) (l : Ledger) (o : Outcome) {k : ℕ}
+    → T (numbered cs) → (o .answer ≡ refused k → 0 < k) → judged (finding cs) l o .answer ≡ refused k → 0 < k
+judged-positive cs l o {k} t f = go (finding cs) refl
+  where
+    go : (d : Finding) → finding cs ≡ d → judged d l o .answer ≡ refused k → 0 < k
+    go pass h e = f e
+    go (fail j) h e = finding-positive cs t (cc)
+
+pub never-zero : (n : ℕ) (l : Ledger) (b : List ℕ) {k : ℕ} → applyBytes n l b .answer ≡ refused k → 0 < k
+unfolding applyBytes
+never-zero n l b =
+    judged-positive (shape b) l (apply n l r) (shape-numbered b)
+    (judged-positive (checks n l r) l o (checks-numbered n l r) made-none)
+  where
+    r : Record
+    r = decode b
+
+    o : Outcome
+    o = record { answer = accepted (made l r); ledger = done l r }
+
+    made-none : {k : ℕ} → o .answer ≡ refused k → 0 < k
+    made-none e = let z : _≡_ {A = ℕ} 0 1 = cc in omega arith
+
+-- ---- a run
+
+module _ (n k c : ℕ) (l : Ledger) (b : List ℕ) (bs : List (List ℕ)) where
+  -- the run from b on, by the answer to b
+  next : Answer → Run
+  next a =
+      elim a [
+        | accepted m ↦ runFrom n (k + 1) (c + length b) (applyBytes n l b .ledger) bs
+        | refused j ↦ record { records = k; bytes = c; stop = j; ledger = l }
+      ]
+
+  pub run-on : {m : Made} → applyBytes n l b .answer ≡ accepted m
+      → runFrom n k c l (b ∷ bs) ≡ runFrom n (k + 1) (c + length b) (applyBytes n l b .ledger) bs
+  unfolding runFrom next
+  run-on e = ap next e
+
+  pub run-stops : {j : ℕ} → applyBytes n l b .answer ≡ refused j
+      → runFrom n k c l (b ∷ bs) ≡ record { records = k; bytes = c; stop = j; ledger = l }
+  unfolding runFrom next
+  run-stops e = ap next e
+
+-- the same run, where k records and c bytes were counted before
+record Counted (k c : ℕ) (s r : Run) : Type 0 where
+  records : r .records ≡ k + s .records
+  bytes : r .bytes ≡ c + s .bytes
+  stop : r .stop ≡ s .stop
+  ledger : r .ledger ≡ s .ledger
+
+StopsFrom : ℕ → ℕ → ℕ → Ledger → List (List ℕ) → Type 0
+StopsFrom n k c l bs = (s : Run) × Counted k c s (runFrom n k c l bs) × Stops n l bs s
+
+stops-from : (n k c : ℕ) (l : Ledger) (bs : List (List ℕ)) → StopsFrom n k c l bs
+unfolding StopsFrom flatten AllAccepted fedAll
+stops-from n k c l [] =
+    unfold runFrom in (
+      record { records = 0; bytes = 0; stop = 0; ledger = l },
+      record { records = omega arith; bytes = omega arith; stop = refl; ledger = refl },
+      record { good = tt; ledger = refl; bytes = refl; end = inl (refl, refl) },
+    )
+stops-from n k c l (b ∷ bs) = go (applyBytes n l b .answer) refl (stops-from n (k + 1) (c + length b) (applyBytes n l b .ledger) bs)
+  where
+    go : (a : Answer) → applyBytes n l b .answer ≡ a
+        → StopsFrom n (k + 1) (c + length b) (applyBytes n l b .ledger) bs → StopsFrom n k c l (b ∷ bs)
+    go (accepted m) e (s, counted, stops) = (
+      record { records = suc (s .records); bytes = length b + s .bytes; stop = s .stop; ledger = s .ledger },
+      rw (run-on n k c l b bs e) (record { records = omega arith; bytes = omega arith; stop = counted .stop; ledger = counted .ledger }),
+      record {
+        good = (subst isAccepted (sym e) tt, stops .good);
+        ledger = stops .ledger;
+        bytes = rw length-append (ap (λ t. length b + t) (stops .bytes));
+        end = elim (stops .end) [ inl h ↦ inl (h .0, ap suc (h .1)) | inr h ↦ inr (omega arith, h .1) ];
+      },
+    )
+    go (refused j) e rest = (
+      record { records = 0; bytes = 0; stop = j; ledger = l },
+      rw (run-stops n k c l b bs e) (record { records = omega arith; bytes = omega arith; stop = refl; ledger = refl }),
+      record { good = tt; ledger = refl; bytes = refl; end = inr (omega arith, e) },
+    )
+
+same-run : (s r : Run) → Counted 0 0 s r → s ≡ r
+same-run s r h = λ i. record { records = e i; bytes = f i; stop = sym (h .stop) i; ledger = sym (h .ledger) i }
+  where
+    e : s .records ≡ r .records
+    e = omega arith
+
+    f : s .bytes ≡ r .bytes
+    f = omega arith
+
+pub stops-at-first-bad : (n : ℕ) (l : Ledger) (bs : List (List ℕ)) → Stops n l bs (runFrom n 0 0 l bs)
+unfolding StopsFrom
+stops-at-first-bad n l bs =
+    let (s, counted, stops) = stops-from n 0 0 l bs in
+    subst (Stops n l bs) (same-run s (runFrom n 0 0 l bs) counted) stops
+
+-- for a stream
+pub run-stops-at-first-bad : (n : ℕ) (l : Ledger) (b : List ℕ) → Stops n l (recordsOf b) (run n l b)
+run-stops-at-first-bad n l b = stops-at-first-bad n l (recordsOf b)
+
+accepted-at : (n : ℕ) (l : Ledger) (bs : List (List ℕ)) (i : ℕ)
+    → AllAccepted n l bs → i < length bs → isAccepted (applyBytes n (fedAll n l (take i bs)) (getD bs i []) .answer)
+unfolding AllAccepted fedAll
+accepted-at n l [] i t h = absurd (omega arith)
+accepted-at n l (b ∷ bs) zero t h = t .0
+accepted-at n l (b ∷ bs) (suc i) t h = accepted-at n (applyBytes n l b .ledger) bs i (t .1) (omega arith)
+
+-- the stopping number is 0 exactly where every record is accepted
+pub zero-at-end : (n : ℕ) (l : Ledger) (bs : List (List ℕ)) → runFrom n 0 0 l bs .stop ≡ 0 ↔ AllAccepted n l bs
+zero-at-end n l bs = (to-end, from-end)
+  where
+    r : Run
+    r = runFrom n 0 0 l bs
+
+    stops : Stops n l bs r
+    stops = stops-at-first-bad n l bs
+
+    to-end : r .stop ≡ 0 → AllAccepted n l bs
+    to-end z = elim (stops .end) [
+      | inl h ↦ subst (AllAccepted n l) (take-all (r .records) bs (omega arith)) (stops .good)
+      | inr h ↦ absurd (omega (arith, never-zero n (r .ledger) (getD bs (r .records) []) (h .1)))
+    ]
+
+    from-end : AllAccepted n l bs → r .stop ≡ 0
+    from-end t = elim (stops .end) [
+      | inl h ↦ h .0
+      | inr h ↦ absurd (subst isAccepted (h .1) (rw (stops .ledger) (accepted-at n l bs (r .records) t (h .0))))
+    ]
+
+-- ---- histories
+
+fed-after : (n : ℕ) (h bs : List (List ℕ)) → fedAll n (afterBytes n h) bs ≡ afterBytes n (reverseAux bs h)
+unfolding fedAll afterBy
+fed-after n h [] = refl
+fed-after n h (b ∷ bs) = fed-after n (b ∷ h) bs
+
+-- what is fed to a fresh ledger is a history, which has the latest first
+pub fed-is-history : (n : ℕ) (bs : List (List ℕ)) → fedAll n fresh bs ≡ afterBytes n (reverse bs)
+unfolding afterBy
+fed-is-history n bs = fed-after n [] bs
+
+accepted-after : (n : ℕ) (h bs : List (List ℕ)) → AcceptedBytes n h → AllAccepted n (afterBytes n h) bs → AcceptedBytes n (reverseAux bs h)
+unfolding AllAccepted AcceptedBy
+accepted-after n h [] a t = a
+accepted-after n h (b ∷ bs) a t = accepted-after n (b ∷ h) bs (t .0, a) (t .1)
+
+pub accepted-is-history : (n : ℕ) (bs : List (List ℕ)) → AllAccepted n fresh bs → AcceptedBytes n (reverse bs)
+unfolding AcceptedBy
+accepted-is-history n bs t = accepted-after n [] bs tt t

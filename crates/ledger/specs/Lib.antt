@@ -1,0 +1,11 @@
+pub mod Limits
+pub mod Literals
+pub mod Ledger
+pub mod Record
+pub mod Checks
+pub mod Apply
+pub mod Bytes
+pub mod Run
+pub mod Truth
+pub mod History
+pub mod Examples

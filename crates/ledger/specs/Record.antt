@@ -1,0 +1,82 @@
+-- Records with their fields, the marks that they bear, and what is answered.
+use mathlib.Core.Bool.{Bool, true, false}
+use mathlib.Core.List.{List, [], _∷_}
+use Prim.Native.Nat.{ℕ}
+use lib.IntN.{ℤ}
+use Rattle.rows.specs.Limits.{mostTerms}
+use Rattle.rows.specs.Form.{Form}
+use Rattle.rows.specs.Sum.{Term}
+use Rattle.ledger.specs.Limits.{longestLine}
+
+-- the records that make a form or a line
+pub data Rule : Type 0 where
+  FM : Form → Rule
+  PM : List ℕ → Rule
+  RS : (pivot first second : ℕ) → Rule
+  FK : List Term → Rule
+  TO : (a b : ℕ) → Rule
+  TR : (z u v : ℕ) → Rule
+  EQ : (z a : ℕ) → Rule
+  TI : (a b : ℕ) (c : ℤ) → Rule
+  WK : (z g : ℕ) → Rule
+  CL : List Term → Rule
+
+pub data Record : Type 0 where
+  make : Rule → Record
+  OP : Record
+  WD : Record
+
+-- ---- the answer: what was made, or the number of the refusal
+
+-- a form or a line by its number, or the count of open levels
+pub data Made : Type 0 where
+  form : ℕ → Made
+  line : ℕ → Made
+  level : ℕ → Made
+
+pub data Answer : Type 0 where
+  accepted : Made → Answer
+  refused : ℕ → Answer
+
+abbrev pub isAccepted : Answer → Type 0
+isAccepted (accepted m) = Unit {0}
+isAccepted (refused n) = ⊥
+
+-- ---- marks: how records of each look in bytes
+
+pub data RecordMark : Type 0 where
+  fm pm rs fk to tr eq ti wk cl op wd : RecordMark
+
+-- two letters; a count with its range, or none; and the bytes: all of them at count 0, and how many more for each that is counted
+pub record Layout : Type 0 where
+  pub first : ℕ
+  pub second : ℕ
+  pub counted : Bool
+  pub least : ℕ
+  pub most : ℕ
+  pub bytes : ℕ
+  pub each : ℕ
+
+abbrev pub fixed : ℕ → ℕ → ℕ → Layout
+fixed a b n = record { first = a; second = b; counted = false; least = 0; most = 0; bytes = n; each = 0 }
+
+abbrev pub counting : ℕ → ℕ → ℕ → ℕ → ℕ → Layout
+counting a b least most each = record { first = a; second = b; counted = true; least = least; most = most; bytes = 3; each = each }
+
+-- the letters by their ASCII numbers
+abbrev pub layout : RecordMark → Layout
+layout fm = fixed 70 77 57
+layout pm = counting 80 77 0 longestLine 2
+layout rs = fixed 82 83 8
+layout fk = counting 70 75 1 mostTerms 6
+layout to = fixed 84 79 6
+layout tr = fixed 84 82 8
+layout eq = fixed 69 81 6
+layout ti = fixed 84 73 10
+layout wk = fixed 87 75 6
+layout cl = counting 67 76 1 mostTerms 6
+layout op = fixed 79 80 2
+layout wd = fixed 87 68 2
+
+abbrev pub marks : List RecordMark
+marks = fm ∷ pm ∷ rs ∷ fk ∷ to ∷ tr ∷ eq ∷ ti ∷ wk ∷ cl ∷ op ∷ wd ∷ []

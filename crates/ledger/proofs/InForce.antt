@@ -14,7 +14,8 @@ use Rattle.ledger.specs.Bytes.{decode, applyBytes}
 use Rattle.ledger.specs.History.{strike, entered, kept, afterBy, AcceptedBy, inForceBy}
 use Rattle.ledger.specs.History.{after, Accepted, inForce, afterBytes, AcceptedBytes, bytesInForce}
 use Rattle.ledger.proofs.Findings.{apply-accepted, apply-refused, bytes-accepted, bytes-refused}
-use Rattle.ledger.proofs.Withdrawal.{Marked, withdrawn-opened, withdrawn-add, marks-add, marked-done}
+use Rattle.ledger.specs.Legal.{Marked}
+use Rattle.ledger.proofs.Withdrawal.{withdrawn-opened, withdrawn-add, marks-add, marked-done}
 
 -- what items do, against the records that they are
 pub record Lawful {A : Type 0} (does : Ledger → A → Outcome) (says : A → Record) : Type 0 where

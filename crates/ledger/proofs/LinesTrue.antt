@@ -14,6 +14,7 @@ use Rattle.ints.proofs.Bools.{T-and, and-T}
 use Rattle.ints.proofs.Lists.{all-at, all-implies}
 use Rattle.rows.specs.Form.{Form}
 use Rattle.rows.specs.Truth.{Integers}
+use Rattle.ledger.specs.Literals.{below}
 use Rattle.ledger.specs.Ledger.{Line, Mark, Ledger, noForm, noLine, New, newForm, newLine, add, opened, backTo, withdrawn}
 use Rattle.ledger.specs.Record.{Record, make, OP, WD}
 use Rattle.ledger.specs.Checks.{makes, tests, checks, Passed}
@@ -21,11 +22,12 @@ use Rattle.ledger.specs.Apply.{Outcome, done, apply}
 use Rattle.ledger.specs.Bytes.{shape, decode, applyBytes}
 use Rattle.ledger.specs.History.{afterBy, after, afterBytes}
 use Rattle.ledger.specs.Run.{refuted, standing}
+use Rattle.ledger.specs.Legal.{lineBelow, MarksIn, Marked, Named}
 use Rattle.ledger.specs.Truth.{lineTrue, linesTrue, asPremise, premisesTrue}
 use Rattle.ints.proofs.Lists.{all-append, all-take}
-use Rattle.ledger.proofs.TruthLaws.{below, namesBelow, Agree, lines-agree, premises-agree}
+use Rattle.ledger.proofs.TruthLaws.{Agree, lines-agree, premises-agree}
 use Rattle.ledger.proofs.Findings.{passed-front, judged-keeps}
-use Rattle.ledger.proofs.Withdrawal.{MarksIn, Marked, marked-add, marked-done}
+use Rattle.ledger.proofs.Withdrawal.{marked-add, marked-done}
 use Rattle.ledger.proofs.StandingLaws.{standing-lowest}
 use Rattle.ledger.proofs.RuleSound.{Owed, owed}
 
@@ -35,33 +37,28 @@ use Rattle.ledger.proofs.RuleSound.{Owed, owed}
 abbrev pub Sound : List Form → List Line → Type 0
 Sound fs ls = (k : ℕ) (ρ : Integers) → T (premisesTrue ρ fs (take k ls)) → T (linesTrue ρ fs (take k ls))
 
--- the lines name forms that there are, and those below a mark name forms below it
-abbrev pub Named : ℕ → List Line → List Mark → Type 0
-Named n ls [] = T (all (namesBelow n) ls)
-Named n ls (m ∷ ms) = T (all (namesBelow n) ls) × Named (m .forms) (take (m .lines) ls) ms
-
 pub record Good (l : Ledger) : Type 0 where
   pub marked : Marked l
   pub named : Named (length (l .forms)) (l .lines) (l .marks)
   pub sound : Sound (l .forms) (l .lines)
 
-named-all : (n : ℕ) (ls : List Line) (ms : List Mark) → Named n ls ms → T (all (namesBelow n) ls)
+named-all : (n : ℕ) (ls : List Line) (ms : List Mark) → Named n ls ms → T (all (lineBelow n) ls)
 named-all n ls [] h = h
 named-all n ls (m ∷ ms) h = h .0
 
-pub good-named : (l : Ledger) → Good l → T (all (namesBelow (length (l .forms))) (l .lines))
+pub good-named : (l : Ledger) → Good l → T (all (lineBelow (length (l .forms))) (l .lines))
 good-named l g = named-all (length (l .forms)) (l .lines) (l .marks) (g .named)
 
 -- ---- other forms
 
-sound-agree : (fs gs : List Form) (n : ℕ) (ls : List Line) → Agree fs gs n → T (all (namesBelow n) ls) → Sound fs ls → Sound gs ls
+sound-agree : (fs gs : List Form) (n : ℕ) (ls : List Line) → Agree fs gs n → T (all (lineBelow n) ls) → Sound fs ls → Sound gs ls
 sound-agree fs gs n ls same names s k ρ p =
-    let first = all-take (namesBelow n) k ls names in
+    let first = all-take (lineBelow n) k ls names in
     rw (lines-agree ρ fs gs n same (take k ls) first) at (s k ρ (rw (premises-agree ρ fs gs n same (take k ls) first) p))
 
-names-more : (n m : ℕ) → n ≤ m → (ls : List Line) → T (all (namesBelow n) ls) → T (all (namesBelow m) ls)
+names-more : (n m : ℕ) → n ≤ m → (ls : List Line) → T (all (lineBelow n) ls) → T (all (lineBelow m) ls)
 names-more n m h =
-    all-implies (namesBelow n) (namesBelow m)
+    all-implies (lineBelow n) (lineBelow m)
     (λ x. all-implies (below n) (below m) (λ y t. omega (arith, ltb→lt, lt→ltb)) (x .literals))
 
 named-more : (n m : ℕ) (ls : List Line) (ms : List Mark) → n ≤ m → Named n ls ms → Named m ls ms
@@ -84,11 +81,11 @@ sound-line fs ls x s f k ρ =
         let lines : T (linesTrue ρ fs ls) = rw (take-length ls) at (s (length ls) ρ (rw (take-length ls) before)) in
         simp (all-append, and-true) (and-T (linesTrue ρ fs ls) (lineTrue ρ fs x) lines (f ρ lines last))
 
-named-line : (n : ℕ) (ls : List Line) (x : Line) (ms : List Mark) (f : ℕ) → MarksIn f (length ls) ms → Named n ls ms → T (namesBelow n x)
+named-line : (n : ℕ) (ls : List Line) (x : Line) (ms : List Mark) (f : ℕ) → MarksIn f (length ls) ms → Named n ls ms → T (lineBelow n x)
     → Named n (ls ++ (x ∷ [])) ms
-named-line n ls x [] f k t u = simp (all-append, and-true) (and-T (all (namesBelow n) ls) (namesBelow n x) t u)
+named-line n ls x [] f k t u = simp (all-append, and-true) (and-T (all (lineBelow n) ls) (lineBelow n x) t u)
 named-line n ls x (m ∷ ms) f k t u = (
-  simp (all-append, and-true) (and-T (all (namesBelow n) ls) (namesBelow n x) (t .0) u),
+  simp (all-append, and-true) (and-T (all (lineBelow n) ls) (lineBelow n x) (t .0) u),
   rw (take-append-le (m .lines) ls (x ∷ []) (k .1)) (t .1),
 )
 

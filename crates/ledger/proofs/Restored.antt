@@ -10,7 +10,8 @@ use Rattle.ledger.specs.Checks.{makes}
 use Rattle.ledger.specs.Apply.{Outcome, done, apply}
 use Rattle.ledger.specs.Bytes.{decode, applyBytes}
 use Rattle.ledger.specs.History.{afterBy, StaysOpen, ClosedLevel, after, afterBytes}
-use Rattle.ledger.proofs.Withdrawal.{Marked, withdrawn-opened, withdrawn-add, withdrawn-levels, marks-add}
+use Rattle.ledger.specs.Legal.{Marked}
+use Rattle.ledger.proofs.Withdrawal.{withdrawn-opened, withdrawn-add, withdrawn-levels, marks-add}
 use Rattle.ledger.proofs.InForce.{Lawful, marked-after, accepted-done, lawful-records, lawful-bytes}
 
 -- ---- unwinding: withdrawn as often as levels are open above a base, a ledger is that base

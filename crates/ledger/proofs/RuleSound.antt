@@ -15,20 +15,21 @@ use Rattle.rows.specs.Form.{Form}
 use Rattle.rows.specs.Sum.{Term}
 use Rattle.rows.specs.Truth.{Integers, formTrue}
 use Rattle.rows.proofs.Sound.{totality, trichotomy, equation, weakening, tightening, farkas-sound, clash-sound}
-use Rattle.ledger.specs.Literals.{unnegated, negated, lineOf, without}
+use Rattle.ledger.specs.Literals.{unnegated, negated, lineOf, without, below}
 use Rattle.ledger.specs.Ledger.{Line, noLine, nthForm, nthLine, New, newForm, newLine}
 use Rattle.ledger.specs.Record.{Rule, FM, PM, RS, FK, TO, TR, EQ, TI, WK, CL}
 use Rattle.ledger.specs.Checks.{formIn, lineIn, formsOf, firstDivisor, resolvent, derivedLine, makes, tests, Passed}
+use Rattle.ledger.specs.Legal.{lineBelow}
 use Rattle.ledger.specs.Truth.{literalTrue, lineTrue, linesTrue, asPremise}
 use Rattle.ints.proofs.Lists.{all-map, any-map}
 use Rattle.ledger.proofs.LiteralLaws.{any-joined, any-lineOf, any-without, all-joined, all-lineOf, all-without}
-use Rattle.ledger.proofs.TruthLaws.{unnegated-names, negated-names, unnegated-true, negated-true, below, namesBelow}
+use Rattle.ledger.proofs.TruthLaws.{unnegated-names, negated-names, unnegated-true, negated-true}
 
 -- what is owed for a new line: it names forms that there are, and is true where all lines are; that a premise is true is granted
 abbrev pub Owed : List Form → List Line → New → Type 0
 Owed fs ls (newForm f) = Unit {0}
 Owed fs ls (newLine x) =
-    T (namesBelow (length fs) x) × ((ρ : Integers) → T (linesTrue ρ fs ls) → T (asPremise ρ fs x) → T (lineTrue ρ fs x))
+    T (lineBelow (length fs) x) × ((ρ : Integers) → T (linesTrue ρ fs ls) → T (asPremise ρ fs x) → T (lineTrue ρ fs x))
 
 module _ (fs : List Form) (ls : List Line) where
   line-owed : (xs : List ℕ) → T (all (below (length fs)) xs) → ((ρ : Integers) → T (any (literalTrue ρ fs) xs))
@@ -48,12 +49,12 @@ module _ (fs : List Form) (ls : List Line) where
     λ ρ _ _. simp (any-map, negated-true) (isTrue ρ),
   )
 
-  resolvent-owed : (p i j : ℕ) → T (lineIn ls i) → T (lineIn ls j) → T (all (namesBelow (length fs)) ls)
+  resolvent-owed : (p i j : ℕ) → T (lineIn ls i) → T (lineIn ls j) → T (all (lineBelow (length fs)) ls)
       → Owed fs ls (derivedLine (resolvent ls p i j))
   resolvent-owed p i j iIn jIn named = (
     all-joined b first second
-        (all-without b (unnegated p) (nthLine ls i) (parent (namesBelow (length fs)) i iIn named))
-        (all-without b (negated p) (nthLine ls j) (parent (namesBelow (length fs)) j jIn named)),
+        (all-without b (unnegated p) (nthLine ls i) (parent (lineBelow (length fs)) i iIn named))
+        (all-without b (negated p) (nthLine ls j) (parent (lineBelow (length fs)) j jIn named)),
     λ ρ h _.
         rw (any-joined (literalTrue ρ fs) first second)
         (one-stays ρ (formTrue ρ (nthForm fs p)) refl (parent (lineTrue ρ fs) i iIn h) (parent (lineTrue ρ fs) j jIn h)),
@@ -81,7 +82,7 @@ module _ (fs : List Form) (ls : List Line) where
           or-left (any (literalTrue ρ fs) first) (any (literalTrue ρ fs) second)
           (rw (any-without (literalTrue ρ fs) (unnegated p) (nthLine ls i) (unnegated-true ρ fs p ∙ e)) u)
 
-module _ (n : ℕ) (fs : List Form) (ls : List Line) (named : T (all (namesBelow (length fs)) ls)) where
+module _ (n : ℕ) (fs : List Form) (ls : List Line) (named : T (all (lineBelow (length fs)) ls)) where
   pub owed : (r : Rule) → Passed (tests n fs ls r) → Owed fs ls (makes ls r)
   unfolding makes tests
   owed (FM f) t = tt

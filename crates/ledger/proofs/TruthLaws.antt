@@ -4,11 +4,12 @@ use mathlib.Core.Bool.{Bool, not, _||_}
 use mathlib.Core.List.{List}
 use Prim.Native.Nat.{ℕ, _%_, _<_}
 use native.Mathlib.Omega.{arith}
-use lib.Dec.{T, eqb, ltb, ltb→lt}
+use lib.Dec.{T, eqb, ltb→lt}
 use Rattle.ints.specs.Tests.{all}
 use Rattle.rows.specs.Form.{Form}
 use Rattle.rows.specs.Truth.{Integers, formTrue}
-use Rattle.ledger.specs.Literals.{unnegated, negated, formNamed}
+use Rattle.ledger.specs.Literals.{unnegated, negated, formNamed, below}
+use Rattle.ledger.specs.Legal.{lineBelow}
 use Rattle.ledger.specs.Ledger.{Line, premise, nthForm}
 use Rattle.ledger.specs.Truth.{literalTrue, lineTrue, linesTrue, asPremise, premisesTrue}
 use Rattle.ints.proofs.Lists.{all-agree, any-agree}
@@ -32,13 +33,6 @@ module _ (ρ : Integers) (fs : List Form) (f : ℕ) where
 
 -- ---- only the forms named count
 
--- the literal names one of the first n forms
-abbrev pub below : ℕ → ℕ → Bool
-below n x = ltb (formNamed x) n
-
-abbrev pub namesBelow : ℕ → Line → Bool
-namesBelow n x = all (below n) (x .literals)
-
 abbrev pub Agree : List Form → List Form → ℕ → Type 0
 Agree fs gs n = (f : ℕ) → f < n → nthForm fs f ≡ nthForm gs f
 
@@ -47,14 +41,14 @@ module _ (ρ : Integers) (fs gs : List Form) (n : ℕ) (same : Agree fs gs n) wh
   unfolding literalTrue
   literal-agrees x t = rw (same (formNamed x) (ltb→lt (formNamed x) n t))
 
-  pub line-agrees : (x : Line) → T (namesBelow n x) → lineTrue ρ fs x ≡ lineTrue ρ gs x
+  pub line-agrees : (x : Line) → T (lineBelow n x) → lineTrue ρ fs x ≡ lineTrue ρ gs x
   line-agrees x t = any-agree (below n) (literalTrue ρ fs) (literalTrue ρ gs) literal-agrees (x .literals) t
 
-  pub premise-agrees : (x : Line) → T (namesBelow n x) → asPremise ρ fs x ≡ asPremise ρ gs x
+  pub premise-agrees : (x : Line) → T (lineBelow n x) → asPremise ρ fs x ≡ asPremise ρ gs x
   premise-agrees x t = ap (λ (b : Bool). not (eqb (x .origin) premise) || b) (line-agrees x t)
 
-  pub lines-agree : (ls : List Line) → T (all (namesBelow n) ls) → linesTrue ρ fs ls ≡ linesTrue ρ gs ls
-  lines-agree ls t = all-agree (namesBelow n) (lineTrue ρ fs) (lineTrue ρ gs) line-agrees ls t
+  pub lines-agree : (ls : List Line) → T (all (lineBelow n) ls) → linesTrue ρ fs ls ≡ linesTrue ρ gs ls
+  lines-agree ls t = all-agree (lineBelow n) (lineTrue ρ fs) (lineTrue ρ gs) line-agrees ls t
 
-  pub premises-agree : (ls : List Line) → T (all (namesBelow n) ls) → premisesTrue ρ fs ls ≡ premisesTrue ρ gs ls
-  premises-agree ls t = all-agree (namesBelow n) (asPremise ρ fs) (asPremise ρ gs) premise-agrees ls t
+  pub premises-agree : (ls : List Line) → T (all (lineBelow n) ls) → premisesTrue ρ fs ls ≡ premisesTrue ρ gs ls
+  premises-agree ls t = all-agree (lineBelow n) (asPremise ρ fs) (asPremise ρ gs) premise-agrees ls t

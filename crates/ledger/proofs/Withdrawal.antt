@@ -10,14 +10,7 @@ use Rattle.ledger.specs.Ledger.{Line, Mark, Ledger, New, newForm, newLin
 use Rattle.ledger.specs.Record.{Record, make, OP, WD}
 use Rattle.ledger.specs.Checks.{makes}
 use Rattle.ledger.specs.Apply.{done}
-
--- the last mark lies within the counts, and each mark within the one after it
-abbrev pub MarksIn : ℕ → ℕ → List Mark → Type 0
-MarksIn f n [] = Unit {0}
-MarksIn f n (m ∷ ms) = (m .forms ≤ f) × (m .lines ≤ n) × MarksIn (m .forms) (m .lines) ms
-
-abbrev pub Marked : Ledger → Type 0
-Marked l = MarksIn (length (l .forms)) (length (l .lines)) (l .marks)
+use Rattle.ledger.specs.Legal.{MarksIn, Marked}
 
 -- ---- what a withdrawal undoes
 

@@ -8,4 +8,5 @@ pub mod Bytes
 pub mod Run
 pub mod Truth
 pub mod History
+pub mod Legal
 pub mod Examples

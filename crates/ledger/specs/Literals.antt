@@ -3,7 +3,7 @@ use mathlib.Core.Bool.{Bool, true, _&&_, cond}
 use mathlib.Core.List.{List, [], _∷_}
 use Prim.Native.Nat.{ℕ, _+_, _*_, _/_, _%_}
 use lib.Dec.{eqb, ltb}
-use Rattle.ints.specs.Tests.{any}
+use Rattle.ints.specs.Tests.{all, any}
 
 -- form f, and form f negated
 abbrev pub unnegated : ℕ → ℕ
@@ -15,6 +15,13 @@ negated f = 2 * f + 1
 -- the form that a literal names
 abbrev pub formNamed : ℕ → ℕ
 formNamed x = x / 2
+
+-- it names a form below n
+abbrev pub below : ℕ → ℕ → Bool
+below n x = ltb (formNamed x) n
+
+abbrev pub namesBelow : ℕ → List ℕ → Bool
+namesBelow n xs = all (below n) xs
 
 abbrev pub isNegated : ℕ → Bool
 isNegated x = eqb (x % 2) 1

@@ -1,6 +1,6 @@
 -- A form is a kind, a divisor and a row. How it lies in a table's cells, and which contents are legal.
 use mathlib.Core.Bool.{Bool, not, _&&_, cond}
-use mathlib.Core.List.{List}
+use mathlib.Core.List.{List, _∷_}
 use Prim.Native.Nat.{ℕ, _+_, _*_, _≤_}
 use lib.Dec.{eqb}
 use lib.IntN.{ℤ, pos, negℤ}
@@ -30,6 +30,9 @@ isDivided = pos 3
 
 abbrev pub formOf : List ℤ → Form
 formOf cells = record { kind = getD cells 0 (pos 0); divisor = getD cells 1 (pos 0); row = drop 2 cells }
+
+abbrev pub cellsOf : Form → List ℤ
+cellsOf f = f .kind ∷ f .divisor ∷ f .row
 
 -- the cells of form f in a table of forms of n unknowns
 abbrev pub cellsAt : ℕ → List ℤ → ℕ → List ℤ

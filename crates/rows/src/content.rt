@@ -1,7 +1,8 @@
 // What a form and a multiplier may hold.
 ghost use mathlib.Core.Path.{_≡_};
-ghost use Rattle.ints.specs.Tests.{all};
-ghost use Rattle.rows.specs.Limits.{unknowns};
+ghost use lib.IntN.{pos};
+ghost use Rattle.ints.specs.Tests.{between, all};
+ghost use Rattle.rows.specs.Limits.{unknowns, largestMultiplier};
 ghost use Rattle.rows.specs.Form.{formOf, inRange, legalDivisor, legal, legalMultiplier};
 
 // Whether x may be a constant or a coefficient.
@@ -30,7 +31,7 @@ pub fn all_in_range(cells: &[i32]) -> bool
 pub fn legal_divisor(kind: i32, divisor: i32) -> bool
     ensures { λ r. ⌜ r ≡ legalDivisor kind divisor ⌝ }
 {
-    if kind == 3 {
+    if kind == crate::IS_DIVIDED {
         return crate::exact::is_between(1, crate::LARGEST_DIVISOR, divisor);
     }
     divisor == 0
@@ -45,7 +46,7 @@ pub fn legal(cells: &[i32]) -> bool
     }
     let kind = cells[0];
     let divisor = cells[1];
-    if !crate::exact::is_between(1, 3, kind) {
+    if !crate::exact::is_between(crate::AT_MOST, crate::IS_DIVIDED, kind) {
         return false;
     }
     if !legal_divisor(kind, divisor) {
@@ -58,11 +59,18 @@ pub fn legal(cells: &[i32]) -> bool
 pub fn legal_multiplier(kind: i32, m: i32) -> bool
     ensures { λ r. ⌜ r ≡ legalMultiplier kind m ⌝ }
 {
-    if kind == 1 {
+    if kind == crate::AT_MOST {
         return crate::exact::is_between(1, crate::LARGEST_MULTIPLIER, m);
     }
     if m == 0 {
         return false;
     }
     crate::exact::is_between(-crate::LARGEST_MULTIPLIER, crate::LARGEST_MULTIPLIER, m)
+}
+
+// Whether a row may be tightened by c.
+pub fn legal_factor(c: i32) -> bool
+    ensures { λ r. ⌜ r ≡ between (pos 1) (pos largestMultiplier) c ⌝ }
+{
+    crate::exact::is_between(1, crate::LARGEST_MULTIPLIER, c)
 }

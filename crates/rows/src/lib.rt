@@ -3,11 +3,17 @@
 pub mod cells;
 pub mod compare;
 pub mod content;
-mod exact;
+pub mod exact;
 pub mod summable;
 pub mod sums;
 pub mod tighten;
 
+// The kinds of forms.
+pub const AT_MOST: i32 = 1;
+
+pub const IS_ZERO: i32 = 2;
+
+pub const IS_DIVIDED: i32 = 3;
 // The number of unknowns.
 pub const UNKNOWNS: usize = 12;
 // A row is a constant and a coefficient for each unknown.

@@ -7,9 +7,9 @@ use Prim.Native.Nat.{ℕ}
 use lib.Dec.{T}
 use Rattle.ints.proofs.Bools.{never, T→true}
 use Rattle.ledger.specs.Ledger.{Ledger}
-use Rattle.ledger.specs.Record.{Record, Made, accepted, refused}
-use Rattle.ledger.specs.Checks.{Check, checks, Passed}
-use Rattle.ledger.specs.Apply.{Finding, pass, fail, finding, Outcome, judged, done, made, apply}
+use Rattle.ledger.specs.Record.{Rule, Record, make, Made, accepted, refused}
+use Rattle.ledger.specs.Checks.{Check, tests, makes, room, checks, Passed}
+use Rattle.ledger.specs.Apply.{Finding, pass, fail, finding, Outcome, judged, done, kept, made, apply}
 use Rattle.ledger.specs.Bytes.{shape, decode, applyBytes}
 
 -- ---- a list of tests
@@ -93,6 +93,17 @@ module _ (n : ℕ) (l : Ledger) (r : Record) where
   pub apply-refused : (k : ℕ) → apply n l r .answer ≡ refused k → apply n l r .ledger ≡ l
   unfolding apply
   apply-refused k e = judged-refused (finding (checks n l r)) l _ k (λ f. cc) e
+
+-- ---- a rule: its tests, and then the room for what it makes
+
+module _ (n : ℕ) (l : Ledger) (r : Rule) where
+  pub rule-passed : finding (tests n (l .forms) (l .lines) r) ≡ pass → apply n l (make r) ≡ kept l (makes (l .lines) r)
+  unfolding apply checks done made kept
+  rule-passed e = rw (pass-append (tests n (l .forms) (l .lines) r) (room l (makes (l .lines) r)) e)
+
+  pub rule-failed : (k : ℕ) → finding (tests n (l .forms) (l .lines) r) ≡ fail k → apply n l (make r) ≡ record { answer = refused k; ledger = l }
+  unfolding apply checks done made
+  rule-failed k e = rw (fail-append (tests n (l .forms) (l .lines) r) (room l (makes (l .lines) r)) k e)
 
 -- ---- bytes
 

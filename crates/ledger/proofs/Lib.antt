@@ -8,3 +8,4 @@ pub mod RuleSound
 pub mod StandingLaws
 pub mod LinesTrue
 pub mod RunLaws
+pub mod LegalLaws

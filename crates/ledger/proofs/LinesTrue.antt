@@ -42,7 +42,7 @@ pub record Good (l : Ledger) : Type 0 where
   pub named : Named (length (l .forms)) (l .lines) (l .marks)
   pub sound : Sound (l .forms) (l .lines)
 
-named-all : (n : ℕ) (ls : List Line) (ms : List Mark) → Named n ls ms → T (all (lineBelow n) ls)
+pub named-all : (n : ℕ) (ls : List Line) (ms : List Mark) → Named n ls ms → T (all (lineBelow n) ls)
 named-all n ls [] h = h
 named-all n ls (m ∷ ms) h = h .0
 
@@ -56,12 +56,13 @@ sound-agree fs gs n ls same names s k ρ p =
     let first = all-take (lineBelow n) k ls names in
     rw (lines-agree ρ fs gs n same (take k ls) first) at (s k ρ (rw (premises-agree ρ fs gs n same (take k ls) first) p))
 
-names-more : (n m : ℕ) → n ≤ m → (ls : List Line) → T (all (lineBelow n) ls) → T (all (lineBelow m) ls)
-names-more n m h =
-    all-implies (lineBelow n) (lineBelow m)
-    (λ x. all-implies (below n) (below m) (λ y t. omega (arith, ltb→lt, lt→ltb)) (x .literals))
+pub below-more : (n m : ℕ) → n ≤ m → (x : Line) → T (lineBelow n x) → T (lineBelow m x)
+below-more n m h x = all-implies (below n) (below m) (λ y t. omega (arith, ltb→lt, lt→ltb)) (x .literals)
 
-named-more : (n m : ℕ) (ls : List Line) (ms : List Mark) → n ≤ m → Named n ls ms → Named m ls ms
+names-more : (n m : ℕ) → n ≤ m → (ls : List Line) → T (all (lineBelow n) ls) → T (all (lineBelow m) ls)
+names-more n m h = all-implies (lineBelow n) (lineBelow m) (below-more n m h)
+
+pub named-more : (n m : ℕ) (ls : List Line) (ms : List Mark) → n ≤ m → Named n ls ms → Named m ls ms
 named-more n m ls [] h t = names-more n m h ls t
 named-more n m ls (_ ∷ _) h t = (names-more n m h ls (t .0), t .1)
 
@@ -81,7 +82,7 @@ sound-line fs ls x s f k ρ =
         let lines : T (linesTrue ρ fs ls) = rw (take-length ls) at (s (length ls) ρ (rw (take-length ls) before)) in
         simp (all-append, and-true) (and-T (linesTrue ρ fs ls) (lineTrue ρ fs x) lines (f ρ lines last))
 
-named-line : (n : ℕ) (ls : List Line) (x : Line) (ms : List Mark) (f : ℕ) → MarksIn f (length ls) ms → Named n ls ms → T (lineBelow n x)
+pub named-line : (n : ℕ) (ls : List Line) (x : Line) (ms : List Mark) (f : ℕ) → MarksIn f (length ls) ms → Named n ls ms → T (lineBelow n x)
     → Named n (ls ++ (x ∷ [])) ms
 named-line n ls x [] f k t u = simp (all-append, and-true) (and-T (all (lineBelow n) ls) (lineBelow n x) t u)
 named-line n ls x (m ∷ ms) f k t u = (

@@ -5,7 +5,7 @@ use Prim.Native.Nat.{ℕ, _+_, _-_}
 use lib.ListN.{length}
 use Rattle.ledger.specs.Ledger.{Ledger, New, newForm, newLine, add, opened, withdrawn}
 use Rattle.ledger.specs.Record.{Record, make, OP, WD, Made, form, line, level, Answer, accepted, refused}
-use Rattle.ledger.specs.Checks.{Check, makes, checks}
+use Rattle.ledger.specs.Checks.{Check, makes, room, checks}
 
 pub data Finding : Type 0 where
   pass : Finding
@@ -34,6 +34,11 @@ done l WD = withdrawn l
 abbrev pub numbered : Ledger → New → Made
 numbered l (newForm f) = form (length (l .forms))
 numbered l (newLine x) = line (length (l .lines))
+
+-- what is made, kept if there is room for it
+unfoldable pub kept : Ledger → New → Outcome
+unfolding finding room add
+kept l x = judged (finding (room l x)) l (record { answer = accepted (numbered l x); ledger = add l x })
 
 unfoldable pub made : Ledger → Record → Made
 unfolding makes

@@ -1,0 +1,6 @@
+pub mod Limits
+pub mod Cells
+pub mod InOrder
+pub mod Answers
+pub mod Calls
+pub mod Effects

@@ -1,0 +1,3 @@
+pub mod JoinLaws
+pub mod Filler
+pub mod PartLaws

@@ -1,0 +1,108 @@
+-- `writes::add_line` meets its contract.
+use mathlib.Core.Path.{ap}
+use Prim.Native.Nat.{_+_, _*_}
+use native.Mathlib.Omega.{arith}
+use denote.Ref.{now}
+use lib.ListN.{length, length-set}
+use Rattle.ledger.specs.Literals.{joined}
+use Rattle.session.specs.Limits.{lineCells}
+use Rattle.session.specs.Effects.{withLine}
+use Rattle.writes.proofs.PartLaws.{part-written, two-written}
+use borrow.Author.Needs.{needs}
+use Rattle.writes.proofs.add_line.Statement.{statement}
+use Rattle.writes.proofs.add_line.Tie as tie
+
+cast-at : tie.Need-cast-at
+cast-at c = search needs
+
+mul-join-into : tie.Need-mul-join-into
+mul-join-into c = search needs
+
+sub-join-into : tie.Need-sub-join-into
+sub-join-into c = search needs
+
+part-join-into-start : tie.Need-part-join-into-start
+part-join-into-start c = search needs
+
+part-join-into-end : tie.Need-part-join-into-end
+part-join-into-end c = search needs
+
+join-into-requires : tie.Need-join-into-requires
+join-into-requires c κs = search needs
+
+joined-length-requires : tie.Need-joined-length-requires
+joined-length-requires c κs = search needs
+
+cast-end : tie.Need-cast-end
+cast-end c = search needs
+
+add-end : tie.Need-add-end
+add-end c = search needs
+
+cast-k : tie.Need-cast-k
+cast-k c = search needs
+
+mul-k : tie.Need-mul-k
+mul-k c = search needs
+
+mul-lines : tie.Need-mul-lines
+mul-lines c = search needs
+
+slice-write-lines : tie.Need-slice-write-lines
+slice-write-lines c = search needs
+
+add-lines : tie.Need-add-lines
+add-lines c = search needs
+
+mul-lines-2 : tie.Need-mul-lines-2
+mul-lines-2 c = search needs
+
+slice-write-lines-2 : tie.Need-slice-write-lines-2
+slice-write-lines-2 c = simp length-set (omega arith)
+
+add-next : tie.Need-add-next
+add-next c = search needs
+
+same-length : tie.Need-same-length
+same-length c = search needs
+
+same-length-2 : tie.Need-same-length-2
+same-length-2 c = search needs
+
+returns : tie.Need-returns
+returns c =
+    let d = c .before .before .before in
+    let p = d .before .before .before in
+    let a = p .before .before .before .before .before .before .before .args in
+    let n = d .joined-length .ensures in
+    let xs = joined (now (a .a)) (now (a .b)) in
+    record {
+      session = ap (withLine (a .s)) n;
+      pool = part-written (now (a .pool)) _ xs (a .s .literals) (omega arith) (p .join-into .ensures);
+      lines = rw n (two-written (now (a .lines)) (lineCells * a .s .lines) (a .s .literals + length xs) (a .origin) (omega arith));
+    }
+
+pub add-line-spec : {M : Type 1} → statement M
+add-line-spec =
+    tie.close
+    (tie.spec
+    cast-at
+    mul-join-into
+    sub-join-into
+    part-join-into-start
+    part-join-into-end
+    join-into-requires
+    joined-length-requires
+    cast-end
+    add-end
+    cast-k
+    mul-k
+    mul-lines
+    slice-write-lines
+    add-lines
+    mul-lines-2
+    slice-write-lines-2
+    add-next
+    same-length
+    same-length-2
+    returns)

@@ -36,21 +36,22 @@ pub fn add_form(s: Session, forms: &mut [i32], cells: &[i32]) -> Session
     next
 }
 
-// One line more: the literals of a and b, joined.
+// One line more: the literals of a and b, joined, of which there are so many.
 pub fn add_line(
     s: Session,
     pool: &mut [u16],
     lines: &mut [u16],
     a: &[u16],
     b: &[u16],
+    count: usize,
     origin: u16,
 ) -> Session
-    requires { ⌜ LineRoom s (now pool) (now lines) (joined (now a) (now b)) ⌝ }
+    requires { ⌜ LineRoom s (now pool) (now lines) (joined (now a) (now b)) × (count ≡ length (joined (now a) (now b))) ⌝ }
     ensures { λ r. ⌜ LineAdded s (now (pool .entry)) (now (lines .entry)) (joined (now (a .entry)) (now (b .entry))) origin r (now (pool .exit)) (now (lines .exit)) ⌝ }
 {
     let at = s.literals as usize;
     crate::join::join_into(&mut pool[at..], a, b);
-    let end = s.literals + crate::join::joined_length(a, b) as u16;
+    let end = s.literals + count as u16;
     let k = Session::LINE_CELLS * (s.lines as usize);
     lines[k] = end;
     lines[k + 1] = origin;

@@ -30,9 +30,6 @@ part-join-into-end c = search needs
 join-into-requires : tie.Need-join-into-requires
 join-into-requires c κs = search needs
 
-joined-length-requires : tie.Need-joined-length-requires
-joined-length-requires c κs = search needs
-
 cast-end : tie.Need-cast-end
 cast-end c = search needs
 
@@ -71,10 +68,10 @@ same-length-2 c = search needs
 
 returns : tie.Need-returns
 returns c =
-    let d = c .before .before .before in
-    let p = d .before .before .before in
-    let a = p .before .before .before .before .before .before .before .args in
-    let n = d .joined-length .ensures in
+    let p = c .before .before .before .before .before in
+    let start = p .before .before .before .before .before .before .before in
+    let a = start .args in
+    let n = start .pre .1 in
     let xs = joined (now (a .a)) (now (a .b)) in
     record {
       session = ap (withLine (a .s)) n;
@@ -92,7 +89,6 @@ add-line-spec =
     part-join-into-start
     part-join-into-end
     join-into-requires
-    joined-length-requires
     cast-end
     add-end
     cast-k

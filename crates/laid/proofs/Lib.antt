@@ -1,0 +1,9 @@
+pub mod LaidParts
+pub mod Writes
+pub mod ByIndex
+pub mod LaidCells
+pub mod LaidMarks
+pub mod Sizes
+pub mod LegalLaid
+pub mod OrderLaid
+pub mod InOrderIffLaid

@@ -1,3 +1,4 @@
 pub mod Filling
 pub mod Starting
 pub mod Clauses
+pub mod LineEnds

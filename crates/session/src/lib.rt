@@ -2,5 +2,6 @@
 // are in order, stands in specs/.
 pub mod answers;
 pub mod clear;
+pub mod lines;
 pub mod start;
 pub mod state;

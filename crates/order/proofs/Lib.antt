@@ -1,0 +1,5 @@
+pub mod Says
+pub mod LineWalk
+pub mod Bridge
+pub mod Entry
+pub mod EmptyLines

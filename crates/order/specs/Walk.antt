@@ -1,0 +1,96 @@
+-- What the order test finds out on its one way through the cells, level by level.
+use mathlib.Core.Path.{_≡_}
+use mathlib.Core.Bool.{Bool, true}
+use mathlib.Core.List.{List}
+use Prim.Native.Nat.{ℕ, zero, suc, _+_, _*_, _≤_, _<_}
+use lib.Dec.{T}
+use lib.IntN.{ℤ}
+use lib.ListN.{length}
+use Rattle.rows.specs.Form.{formAt, legal}
+use Rattle.ledger.specs.Limits.{mostForms, mostLines, mostLiterals, mostLevels, longestLine}
+use Rattle.ledger.specs.Literals.{ascending, namesBelow}
+use Rattle.ledger.specs.Legal.{isOrigin}
+use Rattle.session.specs.declared.state.Mark.{Mark}
+use Rattle.session.specs.declared.state.Session.{Session}
+use Rattle.session.specs.Limits.{lineCells, formTable, poolTable, lineTable}
+use Rattle.session.specs.Cells.{noMark, countsOf, endBefore, originAt, literalsAt, edge}
+use Rattle.session.specs.InOrder.{notAbove}
+
+-- the answer is true exactly where P holds
+pub record Exactly (r : Bool) (P : Type 0) : Type 0 where
+  pub yes : r ≡ true → P
+  pub only : P → r ≡ true
+
+pub record Counted (s : Session) : Type 0 where
+  pub forms : s .forms ≤ mostForms
+  pub lines : s .lines ≤ mostLines
+  pub literals : s .literals ≤ mostLiterals
+  pub levels : s .«open» ≤ mostLevels
+
+abbrev pub FormsGood : ℕ → List ℤ → ℕ → Type 0
+FormsGood n forms count = (f : ℕ) → f < count → T (legal n (formAt n forms f))
+
+-- line i is right, and names only forms below n
+pub record LineGood (pool lines : List ℕ) (n i : ℕ) : Type 0 where
+  pub rise : endBefore lines i ≤ endBefore lines (suc i)
+  pub short : endBefore lines (suc i) ≤ endBefore lines i + longestLine
+  pub origin : T (isOrigin (originAt lines i))
+  pub ascends : T (ascending (literalsAt pool lines i))
+  pub names : T (namesBelow n (literalsAt pool lines i))
+
+-- the lines from one mark up to the next name only the next one's forms
+abbrev pub LinesGood : List ℕ → List ℕ → Mark → Mark → Type 0
+LinesGood pool lines low m = (i : ℕ) → low .lines ≤ i → i < m .lines → LineGood pool lines (m .forms) i
+
+-- what the walk from one mark to the next takes for granted
+pub record Stretch (pool lines : List ℕ) (low m : Mark) : Type 0 where
+  pub forms : m .forms ≤ mostForms
+  pub line-room : lineCells * m .lines ≤ length lines
+  pub few : m .lines ≤ mostLines
+  pub pool-room : m .literals ≤ length pool
+  pub little : m .literals ≤ mostLiterals
+  pub order : low .lines ≤ m .lines
+  pub first : endBefore lines (low .lines) ≡ low .literals
+  pub last : endBefore lines (m .lines) ≡ m .literals
+  pub rise : low .literals ≤ m .literals
+
+-- what the test of a level takes for granted
+pub record Below (pool lines : List ℕ) (here low : Mark) : Type 0 where
+  pub forms : here .forms ≤ mostForms
+  pub line-room : lineCells * here .lines ≤ length lines
+  pub few : here .lines ≤ mostLines
+  pub pool-room : here .literals ≤ length pool
+  pub little : here .literals ≤ mostLiterals
+  pub first : endBefore lines (low .lines) ≡ low .literals
+
+-- one mark after another
+pub record LevelGood (pool lines : List ℕ) (here low m : Mark) : Type 0 where
+  pub rises : T (notAbove low m)
+  pub held : T (notAbove m here)
+  pub ends : endBefore lines (m .lines) ≡ m .literals
+  pub each : LinesGood pool lines low m
+
+-- what stands before edge i
+abbrev pub lower : Session → ℕ → Mark
+lower s zero = noMark
+lower s (suc i) = edge s i
+
+abbrev pub LevelsGood : List ℕ → List ℕ → Session → Type 0
+LevelsGood pool lines s = (i : ℕ) → i ≤ s .«open» → LevelGood pool lines (countsOf s) (lower s i) (edge s i)
+
+pub record Room (pool lines : List ℕ) (s : Session) : Type 0 where
+  pub counted : Counted s
+  pub pool-size : length pool ≡ poolTable
+  pub line-size : length lines ≡ lineTable
+
+-- the tables are cut to their named cells
+pub record Sized (n : ℕ) (forms : List ℤ) (pool lines : List ℕ) : Type 0 where
+  pub form-size : length forms ≡ formTable n
+  pub pool-size : length pool ≡ poolTable
+  pub line-size : length lines ≡ lineTable
+
+-- the tables have their named cells at least
+pub record Long (n : ℕ) (forms : List ℤ) (pool lines : List ℕ) : Type 0 where
+  pub form-room : formTable n ≤ length forms
+  pub pool-room : poolTable ≤ length pool
+  pub line-room : lineTable ≤ length lines

@@ -1,0 +1,162 @@
+// The clauses of the order on lines and marks: one way through the lines, level by level.
+ghost use mathlib.Core.Path.{_≡_};
+ghost use Prim.Native.Nat.{_*_, _≤_};
+ghost use lib.ListN.{drop};
+ghost use Rattle.ints.specs.Tests.{all};
+ghost use Rattle.ledger.specs.Limits.{mostLevels};
+ghost use Rattle.session.specs.Cells.{edge};
+ghost use Rattle.session.specs.InOrder.{notAbove, isNoMark};
+ghost use Rattle.order.specs.Walk.{Exactly, LinesGood, Stretch, Below, LevelGood, LevelsGood, Room};
+use session::state::Mark;
+use session::state::Session;
+
+// Whether no count of a is above b's.
+fn not_above(a: Mark, b: Mark) -> bool
+    ensures { λ r. ⌜ r ≡ notAbove a b ⌝ }
+{
+    if b.forms < a.forms {
+        return false;
+    }
+    if b.lines < a.lines {
+        return false;
+    }
+    a.literals <= b.literals
+}
+
+// Whether the lines between two marks are right. The first cell that breaks the order ends both loops.
+fn lines_hold(pool: &[u16], lines: &[u16], low: Mark, m: Mark) -> bool
+    requires { ⌜ Stretch (now pool) (now lines) low m ⌝ }
+    ensures { λ r. ⌜ Exactly r (LinesGood (now (pool .entry)) (now (lines .entry)) low m) ⌝ }
+{
+    let bound = 2 * m.forms;
+    let last = m.lines as usize;
+    let stop = m.literals as usize;
+    let mut ok = true;
+    let mut from = low.literals as usize;
+    let mut k = low.lines as usize;
+    'lines: while k < last {
+        let end = lines[Session::LINE_CELLS * k] as usize;
+        let origin = lines[Session::LINE_CELLS * k + 1];
+        if end < from {
+            ok = false;
+            break 'lines;
+        }
+        if from + Session::LONGEST_LINE < end {
+            ok = false;
+            break 'lines;
+        }
+        if stop < end {
+            ok = false;
+            break 'lines;
+        }
+        if origin < Session::PREMISE {
+            ok = false;
+            break 'lines;
+        }
+        if Session::DERIVED < origin {
+            ok = false;
+            break 'lines;
+        }
+        let mut least: u16 = 0;
+        let mut i = from;
+        while i < end {
+            let x = pool[i];
+            if x < least {
+                ok = false;
+                break 'lines;
+            }
+            if bound <= x {
+                ok = false;
+                break 'lines;
+            }
+            least = x + 1;
+            i += 1;
+        }
+        from = end;
+        k += 1;
+    }
+    ok
+}
+
+// Whether a mark is right after the one below it: it neither falls nor exceeds the counts, it ends where its lines end,
+// and its lines name only its forms.
+fn level_holds(pool: &[u16], lines: &[u16], here: Mark, low: Mark, m: Mark) -> bool
+    requires { ⌜ Below (now pool) (now lines) here low ⌝ }
+    ensures { λ r. ⌜ Exactly r (LevelGood (now (pool .entry)) (now (lines .entry)) here low m) ⌝ }
+{
+    if !not_above(low, m) {
+        return false;
+    }
+    if !not_above(m, here) {
+        return false;
+    }
+    let k = m.lines as usize;
+    if session::lines::end_before(lines, k) != m.literals {
+        return false;
+    }
+    lines_hold(pool, lines, low, m)
+}
+
+// The mark of level i, or the present counts above the open levels.
+fn edge_at(s: Session, i: usize) -> Mark
+    requires { ⌜ s .«open» ≤ mostLevels ⌝ }
+    ensures { λ r. ⌜ r ≡ edge s i ⌝ }
+{
+    let open = s.open as usize;
+    if i < open {
+        return s.marks[i];
+    }
+    s.counts()
+}
+
+// Whether the levels are right, from the first mark up to the present counts: each line is met once.
+pub fn levels_hold(s: Session, pool: &[u16], lines: &[u16]) -> bool
+    requires { ⌜ Room (now pool) (now lines) s ⌝ }
+    ensures { λ r. ⌜ Exactly r (LevelsGood (now (pool .entry)) (now (lines .entry)) s) ⌝ }
+{
+    let here = s.counts();
+    let open = s.open as usize;
+    let mut low = Mark {
+        forms: 0,
+        lines: 0,
+        literals: 0,
+    };
+    let mut i: usize = 0;
+    while i <= open {
+        let m = edge_at(s, i);
+        if !level_holds(pool, lines, here, low, m) {
+            return false;
+        }
+        low = m;
+        i += 1;
+    }
+    true
+}
+
+fn is_no_mark(m: Mark) -> bool
+    ensures { λ r. ⌜ r ≡ isNoMark m ⌝ }
+{
+    if m.forms != 0 {
+        return false;
+    }
+    if m.lines != 0 {
+        return false;
+    }
+    m.literals == 0
+}
+
+// Whether the marks above the open levels are 0.
+pub fn marks_clear(s: Session) -> bool
+    requires { ⌜ s .«open» ≤ mostLevels ⌝ }
+    ensures { λ r. ⌜ r ≡ all isNoMark (drop (s .«open») (s .marks)) ⌝ }
+{
+    let mut i = s.open as usize;
+    while i < Session::MOST_LEVELS {
+        let m = s.marks[i];
+        if !is_no_mark(m) {
+            return false;
+        }
+        i += 1;
+    }
+    true
+}

@@ -1,0 +1,73 @@
+-- A line less one literal: how it is filled in, one literal of the line at a time, and that it is shorter exactly where the line holds the literal.
+use mathlib.Core.Path.{_≡_, refl, sym, ap, _∙_}
+use mathlib.Core.Bool.{Bool, true, false, _||_, cond}
+use mathlib.Core.List.{List, [], _∷_, _++_, append-assoc, append-nil}
+use Prim.Native.Nat.{ℕ, suc, _+_, _≤_, _<_}
+use native.Mathlib.Numerals.{add-one}
+use native.Mathlib.Omega.{arith}
+use borrow.Author.Tests.{eq-eqb, ne-eqb}
+use lib.Dec.{eqb}
+use lib.ListN.{length, getD, take, drop, set, drop-of-length-le}
+use lib.Seq.{drop-cons, take-suc-set, length-take-le}
+use Rattle.records.specs.declared.fields.Literals.{Literals}
+use Rattle.ledger.specs.Limits.{longestLine}
+use Rattle.ledger.specs.Literals.{holds, without}
+use Rattle.rules.specs.Read.{Gathered, literalsIn}
+
+-- n cells are filled, and the literals from i on are to come
+module _ (x i n : ℕ) (ys cells : List ℕ) (w : take n cells ++ without x (drop i ys) ≡ without x ys) where
+  pub skips : i < length ys → getD ys i 0 ≡ x → take n cells ++ without x (drop (i + 1) ys) ≡ without x ys
+  skips l e = simp (add-one i) (simp (drop-cons ys i 0 l, eq-eqb x (getD ys i 0) (sym e)) at w)
+
+  pub keeps : i < length ys → n < length cells → (getD ys i 0 ≡ x → ⊥)
+      → take (n + 1) (set cells n (getD ys i 0)) ++ without x (drop (i + 1) ys) ≡ without x ys
+  keeps l k e =
+      simp (add-one i, add-one n, take-suc-set cells n (getD ys i 0) k, append-assoc)
+      (simp (drop-cons ys i 0 l, ne-eqb x (getD ys i 0) (λ q. e (sym q))) at w)
+
+  pub filled : length ys ≤ i → take n cells ≡ without x ys
+  filled l = simp (drop-of-length-le ys l, append-nil) at w
+
+-- ---- how long it is
+
+length-without : (x : ℕ) (ys : List ℕ) → length (without x ys) ≤ length ys
+length-without x [] = omega arith
+length-without x (y ∷ ys) = go (eqb x y) (length-without x ys)
+  where
+    go : (b : Bool) → length (without x ys) ≤ length ys → length (cond b (without x ys) (y ∷ without x ys)) ≤ suc (length ys)
+    go true h = omega arith
+    go false h = omega arith
+
+same-length : (x : ℕ) (ys : List ℕ) → length (without x ys) ≡ length ys → holds x ys ≡ false
+same-length x [] e = refl
+same-length x (y ∷ ys) e = go (eqb x y) e (same-length x ys)
+  where
+    go : (b : Bool) → length (cond b (without x ys) (y ∷ without x ys)) ≡ suc (length ys) → (length (without x ys) ≡ length ys → holds x ys ≡ false)
+        → b || holds x ys ≡ false
+    go true e rest = absurd (omega (arith, length-without x ys))
+    go false e rest = rest (omega arith)
+
+other-length : (x : ℕ) (ys : List ℕ) → (length (without x ys) ≡ length ys → ⊥) → holds x ys ≡ true
+other-length x [] f = absurd (f refl)
+other-length x (y ∷ ys) f = go (eqb x y) f (other-length x ys)
+  where
+    go : (b : Bool) → (length (cond b (without x ys) (y ∷ without x ys)) ≡ suc (length ys) → ⊥)
+        → ((length (without x ys) ≡ length ys → ⊥) → holds x ys ≡ true) → b || holds x ys ≡ true
+    go true f rest = refl
+    go false f rest = rest (λ e. f (omega arith))
+
+-- ---- what a line leaves, gathered in an array
+
+module _ {line ys : List ℕ} {x : ℕ} {r : Literals} (e : line ≡ ys) (g : Gathered line x r) where
+  pub left-is : literalsIn r ≡ without x ys
+  left-is = g .left ∙ ap (without x) e
+
+  module _ (whole : length (r .cells) ≡ longestLine) where
+    count-is : r .count ≡ length (without x ys)
+    count-is = sym (length-take-le (r .count) (r .cells) (omega (arith, g .few))) ∙ ap length left-is
+
+    pub none-lost : r .count ≡ length line → holds x ys ≡ false
+    none-lost q = same-length x ys (sym count-is ∙ q ∙ ap length e)
+
+    pub some-lost : (r .count ≡ length line → ⊥) → holds x ys ≡ true
+    some-lost f = other-length x ys (λ q. f (count-is ∙ q ∙ sym (ap length e)))

@@ -1,0 +1,99 @@
+-- `rules::resolve::gather` meets its contract. Invariant: what is filled in, then what is left of the line less the literal, is the whole.
+use mathlib.Core.Path.{_≡_, refl}
+use mathlib.Core.List.{_++_}
+use Prim.Native.Nat.{_-_, _≤_}
+use native.Mathlib.Omega.{arith}
+use borrow.Author.Needs.{needs}
+use lib.ListN.{length, take, drop, length-set}
+use Rattle.ledger.specs.Limits.{longestLine}
+use Rattle.ledger.specs.Literals.{without}
+use Rattle.rules.proofs.LessLaws.{skips, keeps, filled}
+use Rattle.rules.proofs.resolve.gather.Statement.{statement}
+use Rattle.rules.proofs.resolve.gather.Tie as tie
+
+abbrev Inv-loop : tie.InvT-loop
+Inv-loop line less cells₀ count₀ i₀ cells count i =
+    (i ≤ length line)
+    × (count ≤ i)
+    × (length cells ≡ longestLine)
+    × (take count cells ++ without less (drop i line) ≡ without less line)
+
+abbrev μ-loop : tie.MeasureT-loop
+μ-loop line less cells₀ count₀ i₀ cells count i = length line - i
+
+loop-holds : tie.Need-loop-holds Inv-loop μ-loop
+loop-holds c = (omega arith, omega arith, refl, refl)
+
+mul-x : tie.Need-mul-x Inv-loop μ-loop
+mul-x c = search needs
+
+shared-slice-read-x : tie.Need-shared-slice-read-x Inv-loop μ-loop
+shared-slice-read-x c = search needs
+
+add-i : tie.Need-add-i Inv-loop μ-loop
+add-i c = search needs
+
+loop-less : tie.Need-loop-less Inv-loop μ-loop
+loop-less c = search needs
+
+loop-again : tie.Need-loop-again Inv-loop μ-loop
+loop-again c =
+    let l = c .before .before .before in
+    let (k, n, size, done) = l .loop .inv in
+    let a = l .before .args in
+    (omega arith, omega arith, size, skips (a .less) (l .loop .i) (l .loop .count) (a .line .now) (l .loop .cells) done (omega arith) (c .if1 .taken))
+
+mul-cells : tie.Need-mul-cells Inv-loop μ-loop
+mul-cells c = search needs
+
+array-write-cells : tie.Need-array-write-cells Inv-loop μ-loop
+array-write-cells c = search needs
+
+add-count : tie.Need-add-count Inv-loop μ-loop
+add-count c = search needs
+
+add-i-2 : tie.Need-add-i-2 Inv-loop μ-loop
+add-i-2 c = search needs
+
+loop-less-2 : tie.Need-loop-less-2 Inv-loop μ-loop
+loop-less-2 c = search needs
+
+loop-again-2 : tie.Need-loop-again-2 Inv-loop μ-loop
+loop-again-2 c =
+    let l = c .before .before .before in
+    let (k, n, size, done) = l .loop .inv in
+    let a = l .before .args in (
+      omega arith,
+      omega arith,
+      simp length-set size,
+      keeps (a .less) (l .loop .i) (l .loop .count) (a .line .now) (l .loop .cells) done (omega arith) (omega arith) (c .if1 .left),
+    )
+
+returns : tie.Need-returns Inv-loop μ-loop
+returns c =
+    let l = c .before in
+    let a = l .before .args in
+    record {
+      few = omega arith;
+      left = filled (a .less) (l .loop .i) (l .loop .count) (a .line .now) (l .loop .cells) (l .loop .inv .3) (omega arith);
+    }
+
+pub gather-spec : {M : Type 1} → statement M
+gather-spec =
+    tie.close
+    (tie.spec
+    Inv-loop
+    μ-loop
+    loop-holds
+    mul-x
+    shared-slice-read-x
+    add-i
+    loop-less
+    loop-again
+    mul-cells
+    array-write-cells
+    add-count
+    add-i-2
+    loop-less-2
+    loop-again-2
+    returns)

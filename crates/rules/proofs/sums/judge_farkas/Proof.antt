@@ -1,0 +1,128 @@
+-- `rules::sums::judge_farkas` meets its contract: it makes the tests by the cells, which find what the tests on the ledger find.
+use mathlib.Core.Path.{_≡_, sym, _∙_}
+use mathlib.Core.Bool.{true}
+use borrow.Author.Needs.{needs, sfits-of}
+use borrow.Author.Tests.{not-true, not-false}
+use lib.IntN.{pos}
+use lib.ListN.{drop}
+use mir.Syntax.{w64}
+use mir.Val.{toZ, ofZ}
+use mir.ValLaws.{toZ-ofZ}
+use Rattle.ints.specs.Tests.{all}
+use Rattle.ints.proofs.Order.{lt→not-le, not-lt→le}
+use Rattle.rows.specs.Limits.{unknowns}
+use Rattle.rows.specs.Form.{atMost, isZero}
+use Rattle.rows.specs.Sum.{terms}
+use Rattle.rows.proofs.Reached.{farkas-reached, farkas-stray}
+use Rattle.ledger.specs.Literals.{ascending}
+use Rattle.rules.proofs.FindingWalk.{Left, whole, past, fails, passes}
+use Rattle.rules.proofs.TermTests.{inForce, termAllowed, farkasTests, farkas-found, picked, summable}
+use Rattle.rules.proofs.sums.judge_farkas.Statement.{statement}
+use Rattle.rules.proofs.sums.judge_farkas.Tie as tie
+
+all-below-requires : tie.Need-all-below-requires
+all-below-requires c κs = search needs
+
+returns : tie.Need-returns
+returns c =
+    let p = c .before .before .before .before .before .pre in
+    farkas-found (p .0) (p .1) (fails whole (sym (c .before .all-below .ensures) ∙ not-true _ (c .if1 .taken)))
+
+ascend-requires : tie.Need-ascend-requires
+ascend-requires c κs = search needs
+
+-- every form is in force
+forms-in : (c : tie.Else1) → let a = c .before .before .before .before .before .args in inForce (a .s) (a .picks .now) ≡ true
+forms-in c = sym (c .before .all-below .ensures) ∙ not-false _ (c .if1 .left)
+
+returns-2 : tie.Need-returns-2
+returns-2 c =
+    let e = c .before .before in
+    let p = e .before .before .before .before .before .pre in
+    farkas-found (p .0) (p .1) (fails (past whole (forms-in e)) (sym (c .before .ascend .ensures) ∙ not-true _ (c .if2 .taken)))
+
+-- and they ascend
+ascends : (c : tie.Else2) → ascending (c .before .before .before .before .before .before .before .args .picks .now) ≡ true
+ascends c = sym (c .before .ascend .ensures) ∙ not-false _ (c .if2 .left)
+
+terms-allowed-requires : tie.Need-terms-allowed-requires
+terms-allowed-requires c κs =
+    let e = c .before .before in
+    let p = e .before .before .before .before .before .pre in
+    (picked (p .0) (p .1) (forms-in e), p .1)
+
+returns-3 : tie.Need-returns-3
+returns-3 c =
+    let e = c .before .before in
+    let b = e .before .before in
+    let p = b .before .before .before .before .before .pre in
+    farkas-found (p .0) (p .1)
+    (fails (past (past whole (forms-in b)) (ascends e)) (sym (c .before .terms-allowed .ensures) ∙ not-true _ (c .if3 .taken)))
+
+-- ---- every term is allowed
+
+abbrev start : tie.Else3 → tie.Start
+start c = c .before .before .before .before .before .before .before .before .before
+
+allowed-in : (c : tie.Else3) →
+    let a = start c .args in all (termAllowed unknowns (a .forms .now) atMost isZero) (terms (a .picks .now) (a .multipliers .now)) ≡ true
+allowed-in c = sym (c .before .terms-allowed .ensures) ∙ not-false _ (c .if3 .left)
+
+past-allowed : (c : tie.Else3) →
+    let a = start c .args in
+    let cs = farkasTests unknowns (a .s) (a .forms .now) (a .picks .now) (a .multipliers .now) in Left cs (drop 3 cs)
+past-allowed c = let e = c .before .before in past (past (past whole (forms-in (e .before .before))) (ascends e)) (allowed-in c)
+
+combine-requires : tie.Need-combine-requires
+combine-requires c κs =
+    let p = start c .pre in
+    summable (p .0) (p .1) atMost isZero (forms-in (c .before .before .before .before)) (allowed-in c)
+
+enum-told : tie.Need-enum-told
+enum-told c = search needs
+
+enum-known-k : tie.Need-enum-known-k
+enum-known-k c = search needs
+
+returns-4 : tie.Need-returns-4
+returns-4 c =
+    let r = c .before .before in
+    let p = start (r .before) .pre in
+    farkas-found (p .0) (p .1) (fails (past-allowed (r .before)) (farkas-stray _ _ _ (sym (r .combine .ensures) ∙ c .enum-told .given .1)))
+
+-- the constant, from its bits
+constant-is : (c : tie.After-known-told) → toZ w64 (ofZ w64 (c .before .k .given .0 .0)) ≡ c .before .k .given .0 .0
+constant-is c = toZ-ofZ w64 (c .before .k .given .0 .0) (sfits-of (c .known-told .given .0 .1))
+
+returns-5 : tie.Need-returns-5
+returns-5 c =
+    let k = c .before .before .k .given in
+    let r = c .before .before .before .before in
+    let p = start (r .before) .pre in
+    let below = lt→not-le (k .0 .0) (pos 1) (rw (constant-is (c .before)) at (c .if4 .taken)) in
+    farkas-found (p .0) (p .1) (fails (past-allowed (r .before)) (farkas-reached _ (k .0 .0) (sym (r .combine .ensures) ∙ k .1) ∙ below))
+
+returns-6 : tie.Need-returns-6
+returns-6 c =
+    let k = c .before .before .k .given in
+    let r = c .before .before .before .before in
+    let p = start (r .before) .pre in
+    let least = not-lt→le (k .0 .0) (pos 1) (rw (constant-is (c .before)) at (c .if4 .left)) in
+    farkas-found (p .0) (p .1) (passes (past (past-allowed (r .before)) (farkas-reached _ (k .0 .0) (sym (r .combine .ensures) ∙ k .1) ∙ least)))
+
+pub judge-farkas-spec : {M : Type 1} → statement M
+judge-farkas-spec =
+    tie.close
+    (tie.spec
+    all-below-requires
+    returns
+    ascend-requires
+    returns-2
+    terms-allowed-requires
+    returns-3
+    combine-requires
+    enum-told
+    enum-known-k
+    returns-4
+    returns-5
+    returns-6)

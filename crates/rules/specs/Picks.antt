@@ -1,0 +1,24 @@
+-- Picked forms and their multipliers, as FK and CL bring them.
+use mathlib.Core.Path.{_≡_}
+use mathlib.Core.Bool.{Bool, _&&_}
+use mathlib.Core.List.{List}
+use Prim.Native.Nat.{ℕ, _≤_, _<_}
+use lib.IntN.{ℤ}
+use lib.ListN.{length, getD}
+use Rattle.ints.specs.Tests.{between}
+use Rattle.rows.specs.Limits.{mostTerms}
+use Rattle.rows.specs.Form.{Inside, legalMultiplier}
+
+-- every picked form lies in the table
+pub record Picked (n : ℕ) (forms : List ℤ) (picks : List ℕ) : Type 0 where
+  pub inside : (i : ℕ) → i < length picks → Inside n forms (getD picks i 0)
+
+-- a multiplier for each, and as many as a sum may have
+pub record Paired (picks : List ℕ) (multipliers : List ℤ) : Type 0 where
+  pub some : 1 ≤ length picks
+  pub few : length picks ≤ mostTerms
+  pub paired : length picks ≡ length multipliers
+
+-- a kind of this range, and a multiplier that it allows
+abbrev pub allowed : ℤ → ℤ → ℤ → ℤ → Bool
+allowed low high kind m = between low high kind && legalMultiplier kind m

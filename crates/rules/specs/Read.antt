@@ -2,13 +2,10 @@
 use mathlib.Core.Path.{_≡_}
 use mathlib.Core.List.{List}
 use Prim.Native.Nat.{ℕ, _≤_}
-use lib.Dec.{T}
-use lib.IntN.{ℤ}
 use lib.ListN.{length, take}
-use Rattle.rows.specs.Form.{Form, formAt}
 use Rattle.ledger.specs.Limits.{mostLevels, longestLine}
 use Rattle.ledger.specs.Literals.{unnegated, negated, without}
-use Rattle.ledger.specs.Ledger.{Line, nthLine}
+use Rattle.ledger.specs.Ledger.{nthLine}
 use Rattle.ledger.specs.Record.{Rule, RS}
 use Rattle.ledger.specs.Apply.{pass, fail, finding}
 use Rattle.ledger.specs.Checks.{tests, Passed, resolvent}

@@ -1,0 +1,5 @@
+mod Bridge
+mod Feeding
+mod Judging
+mod Stepping
+mod Terms

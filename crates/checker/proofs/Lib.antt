@@ -1,4 +1,5 @@
 mod Bridge
+pub mod FeedLaws
 mod Feeding
 mod Judging
 mod Stepping

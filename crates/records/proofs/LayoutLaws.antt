@@ -1,4 +1,4 @@
--- The table of marks: no record is so long that its length wraps, and the most that is counted.
+-- The table of marks: every record has its two letters, none is so long that its length wraps, and the most that is counted.
 use mathlib.Core.Path.{_≡_}
 use mathlib.Core.List.{List}
 use Prim.Native.Nat.{ℕ, _+_, _*_, _≤_, _<_}
@@ -15,25 +15,29 @@ use Rattle.records.specs.declared.marks.Layout.{Layout}
 use Rattle.records.specs.Fields.{Whole}
 use Rattle.records.specs.Marks.{recordMarkOf, layoutOf}
 
-in-table : (m : ledger.RecordMark) (n : ℕ) → Fits w8 n → bytesFor m n < 2048
+in-table : (m : ledger.RecordMark) (n : ℕ) → Fits w8 n → (2 ≤ layout m .bytes) × (bytesFor m n < 2048)
 in-table m n h =
     elim m [
-      | fm ↦ omega arith
-      | pm ↦ omega arith
-      | rs ↦ omega arith
-      | fk ↦ omega arith
-      | to ↦ omega arith
-      | tr ↦ omega arith
-      | eq ↦ omega arith
-      | ti ↦ omega arith
-      | wk ↦ omega arith
-      | cl ↦ omega arith
-      | op ↦ omega arith
-      | wd ↦ omega arith
+      | fm ↦ (omega arith, omega arith)
+      | pm ↦ (omega arith, omega arith)
+      | rs ↦ (omega arith, omega arith)
+      | fk ↦ (omega arith, omega arith)
+      | to ↦ (omega arith, omega arith)
+      | tr ↦ (omega arith, omega arith)
+      | eq ↦ (omega arith, omega arith)
+      | ti ↦ (omega arith, omega arith)
+      | wk ↦ (omega arith, omega arith)
+      | cl ↦ (omega arith, omega arith)
+      | op ↦ (omega arith, omega arith)
+      | wd ↦ (omega arith, omega arith)
     ]
 
 pub few-bytes : (l : Layout) (m : RecordMark) {n : ℕ} → layoutOf l ≡ layout (recordMarkOf m) → Fits w8 n → l .bytes + l .each * n < 2048
-few-bytes l m {n} e h = rw (← e) at (in-table (recordMarkOf m) n h)
+few-bytes l m {n} e h = rw (← e) at (in-table (recordMarkOf m) n h .1)
+
+-- a record begins with two letters
+pub two-letters : (m : ledger.RecordMark) → 2 ≤ layout m .bytes
+two-letters m = in-table m 0 (omega arith) .0
 
 -- a count that is right for its mark
 pub at-most : {m : ledger.RecordMark} {b : List ℕ} → Whole m b → byteAt b 2 ≤ layout m .most

@@ -3,3 +3,4 @@ pub mod SignedLaws
 pub mod LayoutLaws
 pub mod EachLaws
 pub mod WholeLaws
+pub mod FrontLaws

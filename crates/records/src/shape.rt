@@ -1,13 +1,13 @@
-// The shape of a record: 3, 4, 3, 5, 3. And how many bytes the record at the front of a stream has.
+// The shape of a record: 3, 4, 3, 5, 3. And the record at the front of a stream: how many bytes it has, and their shape.
 ghost use mathlib.Core.Path.{_≡_};
-ghost use Prim.Native.Nat.{_<_, _≤_};
+ghost use Prim.Native.Nat.{_≤_};
 ghost use lib.ListN.{length};
 ghost use Rattle.ledger.specs.Checks.{countIn};
 ghost use Rattle.ledger.specs.Apply.{finding};
-ghost use Rattle.ledger.specs.Bytes.{shapeOf, bears, bytesFor};
-ghost use Rattle.ledger.specs.Run.{frontBytes, front};
-ghost use Rattle.session.specs.Answers.{findingOf};
-ghost use Rattle.records.specs.Marks.{recordMarkOf, Shaped};
+ghost use Rattle.ledger.specs.Bytes.{shapeOf, bears, markOf, bytesFor};
+ghost use Rattle.ledger.specs.Run.{frontBytes};
+ghost use Rattle.session.specs.Answers.{numberOf, findingOf};
+ghost use Rattle.records.specs.Marks.{recordMarkOf, Shaped, Misshapen, Fronted};
 use crate::marks::Bearing;
 use crate::marks::RecordMark;
 use session::answers::Refusal;
@@ -85,7 +85,7 @@ pub fn read_shape(bytes: &[u8]) -> Shape
     }
 }
 
-// The same where the mark is known.
+// How many bytes the mark and the count of the record at the front of a stream require: all that are left where the count does not tell.
 fn front_of(bytes: &[u8], m: RecordMark) -> usize
     requires { ⌜ 2 ≤ length (now bytes) ⌝ }
     ensures { λ r. ⌜ r ≡ frontBytes (now (bytes .entry)) (bears (recordMarkOf m)) ⌝ }
@@ -101,17 +101,55 @@ fn front_of(bytes: &[u8], m: RecordMark) -> usize
     bytes.len()
 }
 
-// How many bytes the record at the front of a stream has: all that are left where its mark or its count does not tell.
-pub fn front(bytes: &[u8]) -> usize
-    requires { ⌜ 0 < length (now bytes) ⌝ }
-    ensures { λ r. ⌜ r ≡ front (now (bytes .entry)) ⌝ }
+// The record at the front of a stream: how many bytes of the stream it has, and their shape.
+pub struct Front {
+    pub size: usize,
+    pub shape: Shape,
+}
+
+// All the bytes, whose shape is wrong.
+fn misshapen(bytes: &[u8], refusal: Refusal) -> Front
+    requires { ⌜ Misshapen (now bytes) (numberOf refusal) ⌝ }
+    ensures { λ r. ⌜ Fronted (now (bytes .entry)) r ⌝ }
+{
+    Front {
+        size: bytes.len(),
+        shape: Shape {
+            verdict: Verdict::Fail(refusal),
+            bearing: Bearing::Unknown,
+        },
+    }
+}
+
+// The front record where its mark is known.
+fn marked_front(bytes: &[u8], m: RecordMark) -> Front
+    requires { ⌜ 2 ≤ length (now bytes) ⌝ }
+    requires { ⌜ markOf (now bytes) ≡ bears (recordMarkOf m) ⌝ }
+    ensures { λ r. ⌜ Fronted (now (bytes .entry)) r ⌝ }
+{
+    let required = front_of(bytes, m);
+    if bytes.len() < required {
+        return misshapen(bytes, Refusal::WrongLength);
+    }
+    Front {
+        size: required,
+        shape: Shape {
+            verdict: shape_of(&bytes[0..required], m),
+            bearing: Bearing::Bears(m),
+        },
+    }
+}
+
+// The front record of any bytes: its mark is found once.
+pub fn read_front(bytes: &[u8]) -> Front
+    ensures { λ r. ⌜ Fronted (now (bytes .entry)) r ⌝ }
 {
     if bytes.len() < 2 {
-        return bytes.len();
+        return misshapen(bytes, Refusal::WrongLength);
     }
     let bearing = crate::marks::mark_of(bytes);
     match bearing {
-        Bearing::Unknown => bytes.len(),
-        Bearing::Bears(m) => front_of(bytes, m),
+        Bearing::Unknown => misshapen(bytes, Refusal::UnknownMark),
+        Bearing::Bears(m) => marked_front(bytes, m),
     }
 }

@@ -9,6 +9,7 @@ ghost use Rattle.ledger.specs.Literals.{joined};
 ghost use Rattle.session.specs.Cells.{tables};
 ghost use Rattle.session.specs.Effects.{FormRoom, FormAdded, LineRoom, LineAdded, withLevel, LevelRoom, LevelClosed, written};
 ghost use lib.ListN.{length};
+ghost use Rattle.writes.specs.Freeing.{freedBetween, Between};
 use session::state::Mark;
 use session::state::Session;
 
@@ -73,6 +74,22 @@ pub fn open_level(s: Session) -> Session
     next
 }
 
+// Every cell between two marks becomes 0.
+pub fn free_cells(from: Mark, to: Mark, forms: &mut [i32], pool: &mut [u16], lines: &mut [u16])
+    requires { ⌜ Between unknowns from to (tables (now forms) (now pool) (now lines)) ⌝ }
+    ensures { λ _. ⌜ tables (now (forms .exit)) (now (pool .exit)) (now (lines .exit)) ≡ freedBetween unknowns from to (tables (now (forms .entry)) (now (pool .entry)) (now (lines .entry))) ⌝ }
+{
+    let first_form = Session::FORM_CELLS * (from.forms as usize);
+    let form_end = Session::FORM_CELLS * (to.forms as usize);
+    session::clear::clear_forms(&mut forms[first_form..form_end]);
+    let first_literal = from.literals as usize;
+    let literal_end = to.literals as usize;
+    session::clear::clear_numbers(&mut pool[first_literal..literal_end]);
+    let first_line = Session::LINE_CELLS * (from.lines as usize);
+    let line_end = Session::LINE_CELLS * (to.lines as usize);
+    session::clear::clear_numbers(&mut lines[first_line..line_end]);
+}
+
 // One level less: the counts return to the last mark, and every freed cell and the mark become 0.
 pub fn close_level(s: Session, forms: &mut [i32], pool: &mut [u16], lines: &mut [u16]) -> Session
     requires { ⌜ LevelRoom unknowns s (tables (now forms) (now pool) (now lines)) ⌝ }
@@ -80,15 +97,7 @@ pub fn close_level(s: Session, forms: &mut [i32], pool: &mut [u16], lines: &mut 
 {
     let at = (s.open - 1) as usize;
     let m = s.marks[at];
-    let first_form = Session::FORM_CELLS * (m.forms as usize);
-    let form_end = Session::FORM_CELLS * (s.forms as usize);
-    session::clear::clear_forms(&mut forms[first_form..form_end]);
-    let first_literal = m.literals as usize;
-    let literal_end = s.literals as usize;
-    session::clear::clear_numbers(&mut pool[first_literal..literal_end]);
-    let first_line = Session::LINE_CELLS * (m.lines as usize);
-    let line_end = Session::LINE_CELLS * (s.lines as usize);
-    session::clear::clear_numbers(&mut lines[first_line..line_end]);
+    free_cells(m, s.counts(), forms, pool, lines);
     let mut next = s;
     next.forms = m.forms;
     next.lines = m.lines;

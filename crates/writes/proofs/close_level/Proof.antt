@@ -1,13 +1,10 @@
 -- `writes::close_level` meets its contract.
 use mathlib.Core.Path.{refl}
-use Prim.Native.Nat.{_*_}
-use native.Mathlib.Omega.{arith}
 use denote.Ref.{now}
-use lib.IntN.{pos}
 use Rattle.rows.specs.Limits.{unknowns}
-use Rattle.session.specs.Limits.{lineCells, formCells}
+use Rattle.session.specs.Cells.{tables, countsOf}
 use Rattle.session.specs.Effects.{lastMark}
-use Rattle.writes.proofs.PartLaws.{part-cleared, same-tables}
+use Rattle.writes.specs.Freeing.{Between}
 use borrow.Author.Needs.{needs}
 use Rattle.writes.proofs.close_level.Statement.{statement}
 use Rattle.writes.proofs.close_level.Tie as tie
@@ -24,86 +21,29 @@ mul-m c = search needs
 element-copy-out-m : tie.Need-element-copy-out-m
 element-copy-out-m c = search needs
 
-cast-first-form : tie.Need-cast-first-form
-cast-first-form c = search needs
+counts-requires : tie.Need-counts-requires
+counts-requires c κs = search needs
 
-mul-first-form : tie.Need-mul-first-form
-mul-first-form c = search needs
-
-cast-form-end : tie.Need-cast-form-end
-cast-form-end c = search needs
-
-mul-form-end : tie.Need-mul-form-end
-mul-form-end c = search needs
-
-mul-clear-forms : tie.Need-mul-clear-forms
-mul-clear-forms c = search needs
-
-sub-clear-forms : tie.Need-sub-clear-forms
-sub-clear-forms c = search needs
-
-part-clear-forms-start : tie.Need-part-clear-forms-start
-part-clear-forms-start c = search needs
-
-part-clear-forms-end : tie.Need-part-clear-forms-end
-part-clear-forms-end c = search needs
-
-clear-forms-requires : tie.Need-clear-forms-requires
-clear-forms-requires c κs = search needs
-
-cast-first-literal : tie.Need-cast-first-literal
-cast-first-literal c = search needs
-
-cast-literal-end : tie.Need-cast-literal-end
-cast-literal-end c = search needs
-
-mul-clear-numbers : tie.Need-mul-clear-numbers
-mul-clear-numbers c = search needs
-
-sub-clear-numbers : tie.Need-sub-clear-numbers
-sub-clear-numbers c = search needs
-
-part-clear-numbers-start : tie.Need-part-clear-numbers-start
-part-clear-numbers-start c = search needs
-
-part-clear-numbers-end : tie.Need-part-clear-numbers-end
-part-clear-numbers-end c = search needs
-
-clear-numbers-requires : tie.Need-clear-numbers-requires
-clear-numbers-requires c κs = search needs
-
-cast-first-line : tie.Need-cast-first-line
-cast-first-line c = search needs
-
-mul-first-line : tie.Need-mul-first-line
-mul-first-line c = search needs
-
-cast-line-end : tie.Need-cast-line-end
-cast-line-end c = search needs
-
-mul-line-end : tie.Need-mul-line-end
-mul-line-end c = search needs
-
-mul-clear-numbers-2 : tie.Need-mul-clear-numbers-2
-mul-clear-numbers-2 c = search needs
-
-sub-clear-numbers-2 : tie.Need-sub-clear-numbers-2
-sub-clear-numbers-2 c = search needs
-
-part-clear-numbers-start-2 : tie.Need-part-clear-numbers-start-2
-part-clear-numbers-start-2 c = search needs
-
-part-clear-numbers-end-2 : tie.Need-part-clear-numbers-end-2
-part-clear-numbers-end-2 c = search needs
-
-clear-numbers-requires-2 : tie.Need-clear-numbers-requires-2
-clear-numbers-requires-2 c κs = search needs
+free-cells-requires : tie.Need-free-cells-requires
+free-cells-requires c κs =
+    let b = c .before .before .before .before .before .before .before in
+    let h = b .pre in
+    let room : Between unknowns (lastMark (b .args .t1)) (countsOf (b .args .t1)) (tables (now (b .args .forms)) (now (b .args .pool)) (now (b .args .lines))) =
+    record {
+      forms = h .forms;
+      lines = h .lines;
+      literals = h .literals;
+      form-table = h .form-table;
+      pool-table = h .pool-table;
+      line-table = h .line-table;
+    } in
+    rw (c .before .before .before .counts .ensures) room
 
 sub-next : tie.Need-sub-next
 sub-next c = search needs
 
-mul-t23 : tie.Need-mul-t23
-mul-t23 c = search needs
+mul-t11 : tie.Need-mul-t11
+mul-t11 c = search needs
 
 element-set-from-next : tie.Need-element-set-from-next
 element-set-from-next c = search needs
@@ -119,22 +59,8 @@ same-length-3 c = search needs
 
 returns : tie.Need-returns
 returns c =
-    let p = c .before .before .before .before .before .before .before in
-    let f = p .before .before .before .before in
-    let b = f .before .before .before .before .before .before in
-    let s = b .args .t1 in
-    let h = b .pre in
-    let m = lastMark s in
-    let n = formCells unknowns in
-    record {
-      session = refl;
-      tables =
-          same-tables
-          (part-cleared (pos 0) (n * m .forms) (n * s .forms) (now (b .args .forms)) _ (omega arith) (h .form-table) (f .clear-forms .ensures))
-          (part-cleared 0 (m .literals) (s .literals) (now (b .args .pool)) _ (h .literals) (h .pool-table) (p .clear-numbers .ensures))
-          (part-cleared 0 (lineCells * m .lines) (lineCells * s .lines) (now (b .args .lines)) _ (omega arith) (h .line-table)
-          (c .before .before .clear-numbers2 .ensures));
-    }
+    let e = c .before .before .before .before .before in
+    record { session = refl; tables = rw (e .before .before .before .before .counts .ensures) at (e .free-cells .ensures) }
 
 pub close-level-spec : {M : Type 1} → statement M
 close-level-spec =
@@ -144,33 +70,10 @@ close-level-spec =
     cast-at
     mul-m
     element-copy-out-m
-    cast-first-form
-    mul-first-form
-    cast-form-end
-    mul-form-end
-    mul-clear-forms
-    sub-clear-forms
-    part-clear-forms-start
-    part-clear-forms-end
-    clear-forms-requires
-    cast-first-literal
-    cast-literal-end
-    mul-clear-numbers
-    sub-clear-numbers
-    part-clear-numbers-start
-    part-clear-numbers-end
-    clear-numbers-requires
-    cast-first-line
-    mul-first-line
-    cast-line-end
-    mul-line-end
-    mul-clear-numbers-2
-    sub-clear-numbers-2
-    part-clear-numbers-start-2
-    part-clear-numbers-end-2
-    clear-numbers-requires-2
+    counts-requires
+    free-cells-requires
     sub-next
-    mul-t23
+    mul-t11
     element-set-from-next
     same-length
     same-length-2

@@ -27,56 +27,8 @@ use Rattle.laid.proofs.Sizes.{laid-sizes}
 use Rattle.laid.proofs.LegalLaid.{laid-in-order}
 use Rattle.rules.proofs.HeldLaws.{held-legal}
 use Rattle.checker.specs.Feed.{unchanged, settled, stepped, beside, fedBy, feed}
+use Rattle.checker.proofs.Beside.{restored, laid-held, entry-beside, excess-beside}
 use Rattle.checker.proofs.Feeding.{entry-held}
-
--- ---- tables and what lies behind them
-
-restored : (n : ℕ) (t : Tables) → withExcess (named n t) (excess n t) ≡ t
-restored n t = λ i. tables (take-append-drop (formTable n) (t .forms) i) (take-append-drop poolTable (t .pool) i) (take-append-drop lineTable (t .lines) i)
-
-take-front : {A : Type 0} (k : ℕ) (xs ys : List A) → length xs ≡ k → take k (xs ++ ys) ≡ xs
-take-front k xs ys e = subst (λ (m : ℕ). take m (xs ++ ys) ≡ xs) e (take-append-seam xs ys)
-
-drop-front : {A : Type 0} (k : ℕ) (xs ys : List A) → length xs ≡ k → drop k (xs ++ ys) ≡ ys
-drop-front k xs ys e = subst (λ (m : ℕ). drop m (xs ++ ys) ≡ ys) e (drop-append-seam xs ys)
-
-passed-both : (cs ds : List Check) → Passed cs → Passed ds → Passed (cs ++ ds)
-passed-both [] ds p q = q
-passed-both (c ∷ cs) ds p q = (p .0, passed-both cs ds (p .1) q)
-
-longer : {A : Type 0} (k : ℕ) (xs ys : List A) → length xs ≡ k → T (leb k (length (xs ++ ys)))
-longer k xs ys e = le→leb k (length (xs ++ ys)) (omega (arith, length-append xs ys))
-
-module _ (n : ℕ) (l : Ledger) (g : Legal n l) (x : Tables) where
-  laid-named : named n (withExcess (tablesOf n l) x) ≡ tablesOf n l
-  laid-named =
-      let e = laid-sizes n l g in
-      λ i. tables
-      (take-front (formTable n) (tablesOf n l .forms) (x .forms) (e .forms) i)
-      (take-front poolTable (tablesOf n l .pool) (x .pool) (e .pool) i)
-      (take-front lineTable (tablesOf n l .lines) (x .lines) (e .lines) i)
-
-  laid-excess : excess n (withExcess (tablesOf n l) x) ≡ x
-  laid-excess =
-      let e = laid-sizes n l g in
-      λ i. tables
-      (drop-front (formTable n) (tablesOf n l .forms) (x .forms) (e .forms) i)
-      (drop-front poolTable (tablesOf n l .pool) (x .pool) (e .pool) i)
-      (drop-front lineTable (tablesOf n l .lines) (x .lines) (e .lines) i)
-
-  laid-sized : Passed (sizes n (withExcess (tablesOf n l) x))
-  unfolding sizes
-  laid-sized =
-      let e = laid-sizes n l g in (
-        longer (formTable n) (tablesOf n l .forms) (x .forms) (e .forms),
-        (longer poolTable (tablesOf n l .pool) (x .pool) (e .pool), (longer lineTable (tablesOf n l .lines) (x .lines) (e .lines), tt)),
-      )
-
-  laid-entry : entry n (sessionOf l) (withExcess (tablesOf n l) x) ≡ pass
-  laid-entry =
-      let t = withExcess (tablesOf n l) x in
-      let ordered : Passed (order n (sessionOf l) (named n t)) = rw laid-named (laid-in-order n l g) in
-      passed→pass (sizes n t ++ order n (sessionOf l) (named n t)) (passed-both (sizes n t) (order n (sessionOf l) (named n t)) laid-sized ordered)
 
 -- ---- the call
 
@@ -141,7 +93,7 @@ module _ (n : ℕ) (s : Session) (t : Tables) (b : List ℕ) where
       where
         of : (a : Answer) (r : Ledger) → Legal n r →
             let x = beside (excess n t) (settled n s (named n t) (record { answer = a; ledger = r })) in entry n (x .session) (x .tables) ≡ pass
-        of (accepted m) r g = laid-entry n r g (excess n t)
+        of (accepted m) r g = entry-beside (laid-held n r g) (excess n t)
         of (refused j) r g = subst (λ (x : Tables). entry n s x ≡ pass) (sym (restored n t)) e
 
     pub excess-stays : excess n (feed n s t b .tables) ≡ excess n t
@@ -150,7 +102,7 @@ module _ (n : ℕ) (s : Session) (t : Tables) (b : List ℕ) where
       where
         of : (a : Answer) (r : Ledger) → Legal n r
             → excess n (beside (excess n t) (settled n s (named n t) (record { answer = a; ledger = r })) .tables) ≡ excess n t
-        of (accepted m) r g = laid-excess n r g (excess n t)
+        of (accepted m) r g = excess-beside (laid-held n r g) (excess n t)
         of (refused j) r g = ap (λ (x : Tables). excess n x) (restored n t)
 
         by : (f : Finding) → entry n s t ≡ f → excess n (fedBy f n s t b .tables) ≡ excess n t

@@ -5,12 +5,16 @@ ghost use lib.ListN.{length};
 ghost use Rattle.rows.specs.Limits.{unknowns};
 ghost use Rattle.ledger.specs.Limits.{mostLevels};
 ghost use Rattle.ledger.specs.Record.{make, FM, PM, RS, FK, TO, TR, EQ, TI, WK, CL, OP, WD, fm, pm, fk};
-ghost use Rattle.ledger.specs.Bytes.{formFrom, literalsFrom, termsFrom, bytesFor};
+ghost use Rattle.ledger.specs.Bytes.{formFrom, literalsFrom, termsFrom, bytesFor, fields};
 ghost use Rattle.session.specs.Cells.{Tables, tables};
 ghost use Rattle.records.specs.Fields.{Whole};
+ghost use Rattle.records.specs.Marks.{recordMarkOf};
 ghost use Rattle.rules.specs.Read.{Held};
-ghost use Rattle.checker.specs.Feed.{Applies};
+ghost use Rattle.checker.specs.Feed.{Applies, Bearing};
 use crate::keep::Fed;
+use records::marks::RecordMark;
+use records::numbers::i32_at;
+use records::numbers::u16_at;
 use session::answers::Answer;
 use session::answers::Made;
 use session::answers::Refusal;
@@ -247,5 +251,57 @@ pub fn withdraw(s: Session, forms: &mut [i32], pool: &mut [u16], lines: &mut [u1
     Fed {
         session: next,
         answer: Answer::Accepted(Made::Level(s.open - 1)),
+    }
+}
+
+// A record that is read as its mark says.
+pub fn marked(
+    s: Session,
+    forms: &mut [i32],
+    pool: &mut [u16],
+    lines: &mut [u16],
+    bytes: &[u8],
+    m: RecordMark,
+) -> Fed
+    requires { ⌜ Held unknowns s (tables (now forms) (now pool) (now lines)) × Bearing (now bytes) (recordMarkOf m) ⌝ }
+    ensures { λ r. ⌜ Applies unknowns s (tables (now (forms .entry)) (now (pool .entry)) (now (lines .entry))) (fields (now (bytes .entry)) (recordMarkOf m)) r (tables (now (forms .exit)) (now (pool .exit)) (now (lines .exit))) ⌝ }
+{
+    match m {
+        RecordMark::Fm => form(s, forms, pool, lines, bytes),
+        RecordMark::Pm => premise(s, forms, pool, lines, bytes),
+        RecordMark::Rs => resolution(
+            s,
+            forms,
+            pool,
+            lines,
+            u16_at(bytes, 2),
+            u16_at(bytes, 4),
+            u16_at(bytes, 6),
+        ),
+        RecordMark::Fk => farkas(s, forms, pool, lines, bytes),
+        RecordMark::To => totality(s, forms, pool, lines, u16_at(bytes, 2), u16_at(bytes, 4)),
+        RecordMark::Tr => trichotomy(
+            s,
+            forms,
+            pool,
+            lines,
+            u16_at(bytes, 2),
+            u16_at(bytes, 4),
+            u16_at(bytes, 6),
+        ),
+        RecordMark::Eq => equation(s, forms, pool, lines, u16_at(bytes, 2), u16_at(bytes, 4)),
+        RecordMark::Ti => tightening(
+            s,
+            forms,
+            pool,
+            lines,
+            u16_at(bytes, 2),
+            u16_at(bytes, 4),
+            i32_at(bytes, 6),
+        ),
+        RecordMark::Wk => weakening(s, forms, pool, lines, u16_at(bytes, 2), u16_at(bytes, 4)),
+        RecordMark::Cl => clash(s, forms, pool, lines, bytes),
+        RecordMark::Op => open(s),
+        RecordMark::Wd => withdraw(s, forms, pool, lines),
     }
 }

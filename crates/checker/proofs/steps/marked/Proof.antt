@@ -1,4 +1,4 @@
--- `checker::feed::marked` meets its contract.
+-- `checker::steps::marked` meets its contract.
 use mathlib.Core.Path.{_≡_, refl, sym, ap, subst, _∙_}
 use mathlib.Core.Bool.{true, false}
 use native.Mathlib.Omega.{arith}
@@ -18,8 +18,8 @@ use Rattle.records.proofs.WholeLaws.{fixed-whole, counted-whole}
 use Rattle.rules.proofs.HeldLaws.{held-clauses}
 use Rattle.checker.specs.Feed.{Bearing, settled}
 use Rattle.checker.proofs.Stepping.{of-two, of-three}
-use Rattle.checker.proofs.feed.marked.Statement.{statement}
-use Rattle.checker.proofs.feed.marked.Tie as tie
+use Rattle.checker.proofs.steps.marked.Statement.{statement}
+use Rattle.checker.proofs.steps.marked.Tie as tie
 
 abbrev cells : tie.Start → Tables
 cells b = tables (b .args .forms .now) (b .args .pool .now) (b .args .lines .now)

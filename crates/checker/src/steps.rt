@@ -73,20 +73,17 @@ pub fn resolution(
     if let Verdict::Fail(why) = v {
         return crate::keep::refuse(s, why);
     }
-    let first = resolved.first;
-    let second = resolved.second;
-    let xs = first.cells;
-    let n = first.count;
-    let ys = second.cells;
-    let m = second.count;
+    let cells = resolved.cells;
+    let count = resolved.count;
+    let none: [u16; 0] = [];
     crate::keep::keep_line(
         s,
         forms,
         pool,
         lines,
-        &xs[0..n],
-        &ys[0..m],
-        resolved.length,
+        &none,
+        &cells[0..count],
+        count,
         Session::DERIVED,
     )
 }

@@ -2,7 +2,10 @@
 use mathlib.Core.Path.{_≡_, refl, sym, subst}
 use mathlib.Core.Bool.{Bool, true, false, not, _&&_, _||_}
 use mathlib.Core.Logic.{_⊎_, inl, inr}
+use Prim.Native.Nat.{_≤_}
+use native.Mathlib.Omega.{arith}
 use lib.Dec.{T}
+use mir.Val.{boolByte}
 
 pub never : {X : Type 0} → false ≡ true → X
 never e = absurd (subst T (sym e) tt)
@@ -51,3 +54,8 @@ or-right false b t = t
 pub implies : (a b : Bool) → (T a → T b) → T (not a || b)
 implies true b f = f tt
 implies false b f = tt
+
+-- a test that is taken for a number
+pub at-most-one : (b : Bool) → boolByte b ≤ 1
+at-most-one true = omega arith
+at-most-one false = omega arith

@@ -1,29 +1,45 @@
--- A line less one literal: how it is filled in, one literal of the line at a time, and that it is shorter exactly where the line holds the literal.
+-- A line less one literal: how it is filled in, one literal of the line at a time, that it is shorter exactly where the line holds the
+-- literal, and that two of them, joined, fit where two lines do.
 use mathlib.Core.Path.{_≡_, refl, sym, ap, _∙_}
-use mathlib.Core.Bool.{Bool, true, false, _||_, cond}
+use mathlib.Core.Bool.{Bool, true, false, not, _||_, cond}
 use mathlib.Core.List.{List, [], _∷_, _++_, append-assoc, append-nil}
-use Prim.Native.Nat.{ℕ, suc, _+_, _≤_, _<_}
+use Prim.Native.Nat.{ℕ, suc, _+_, _*_, _-_, _≤_, _<_}
 use native.Mathlib.Numerals.{add-one}
+use native.Mathlib.Nat.{add-zero, sub-zero}
 use native.Mathlib.Omega.{arith}
-use borrow.Author.Tests.{eq-eqb, ne-eqb}
+use borrow.Author.Tests.{eq-eqb, ne-eqb, eqb-true, eqb-false}
 use lib.Dec.{eqb}
 use lib.ListN.{length, getD, take, drop, set, drop-of-length-le}
-use lib.Seq.{drop-cons, take-suc-set, length-take-le}
+use lib.Seq.{drop-cons, take-set-le, take-suc-set, length-take-le}
+use mir.Val.{boolByte}
 use Rattle.records.specs.declared.fields.Literals.{Literals}
 use Rattle.ledger.specs.Limits.{longestLine}
-use Rattle.ledger.specs.Literals.{holds, without}
+use Rattle.ledger.specs.Literals.{holds, joined, without}
+use Rattle.ledger.proofs.LiteralLaws.{length-joined}
 use Rattle.rules.specs.Read.{Gathered, literalsIn}
 
 -- n cells are filled, and the literals from i on are to come
 module _ (x i n : ℕ) (ys cells : List ℕ) (w : take n cells ++ without x (drop i ys) ≡ without x ys) where
-  pub skips : i < length ys → getD ys i 0 ≡ x → take n cells ++ without x (drop (i + 1) ys) ≡ without x ys
-  skips l e = simp (add-one i) (simp (drop-cons ys i 0 l, eq-eqb x (getD ys i 0) (sym e)) at w)
+  skips : i < length ys → getD ys i 0 ≡ x → take n (set cells n (getD ys i 0)) ++ without x (drop (i + 1) ys) ≡ without x ys
+  skips l e =
+      simp (add-one i, take-set-le n cells n (getD ys i 0) (omega arith))
+      (simp (drop-cons ys i 0 l, eq-eqb x (getD ys i 0) (sym e)) at w)
 
-  pub keeps : i < length ys → n < length cells → (getD ys i 0 ≡ x → ⊥)
+  keeps : i < length ys → n < length cells → (getD ys i 0 ≡ x → ⊥)
       → take (n + 1) (set cells n (getD ys i 0)) ++ without x (drop (i + 1) ys) ≡ without x ys
   keeps l k e =
       simp (add-one i, add-one n, take-suc-set cells n (getD ys i 0) k, append-assoc)
       (simp (drop-cons ys i 0 l, ne-eqb x (getD ys i 0) (λ q. e (sym q))) at w)
+
+  -- the next literal is written to the first free cell, and counts where it is another
+  pub fills : i < length ys → n < length cells
+      → take (n + boolByte (not (eqb (getD ys i 0) x))) (set cells n (getD ys i 0)) ++ without x (drop (i + 1) ys) ≡ without x ys
+  fills l k = go (eqb (getD ys i 0) x) (eqb-true (getD ys i 0) x) (eqb-false (getD ys i 0) x)
+    where
+      go : (b : Bool) → (b ≡ true → getD ys i 0 ≡ x) → (b ≡ false → getD ys i 0 ≡ x → ⊥)
+          → take (n + boolByte (not b)) (set cells n (getD ys i 0)) ++ without x (drop (i + 1) ys) ≡ without x ys
+      go true f g = rw add-zero (skips l (f refl))
+      go false f g = keeps l k (g refl)
 
   pub filled : length ys ≤ i → take n cells ≡ without x ys
   filled l = simp (drop-of-length-le ys l, append-nil) at w
@@ -71,3 +87,16 @@ module _ {line ys : List ℕ} {x : ℕ} {r : Literals} (e : line ≡ ys) (g : Ga
 
     pub some-lost : (r .count ≡ length line → ⊥) → holds x ys ≡ true
     some-lost f = other-length x ys (λ q. f (count-is ∙ q ∙ sym (ap length e)))
+
+-- ---- what two lines leave, joined
+
+pub both-fit : (x y : Literals) → length (x .cells) ≡ longestLine → length (y .cells) ≡ longestLine → x .count ≤ longestLine → y .count ≤ longestLine
+    → length (joined (take (x .count - 0) (x .cells)) (take (y .count - 0) (y .cells))) ≤ 2 * longestLine
+both-fit x y e d h k =
+    simp sub-zero
+    (omega (
+      arith,
+      length-joined (take (x .count) (x .cells)) (take (y .count) (y .cells)),
+      length-take-le (x .count) (x .cells) (omega arith),
+      length-take-le (y .count) (y .cells) (omega arith),
+    ))

@@ -12,11 +12,11 @@ use Rattle.ledger.specs.Limits.{longestLine}
 use Rattle.ledger.specs.Literals.{unnegated, negated, holds, joined, without}
 use Rattle.ledger.specs.Record.{RS}
 use Rattle.ledger.specs.Checks.{Check, _else_, lineIn, tests}
-use Rattle.ledger.specs.Apply.{Finding, pass, fail, finding}
+use Rattle.ledger.specs.Apply.{Finding, fail, finding}
 use Rattle.session.specs.declared.state.Session.{Session}
 use Rattle.session.specs.declared.answers.Refusal.{Refusal}
 use Rattle.session.specs.Cells.{Tables, literalsAt, ledgerOf}
-use Rattle.session.specs.Answers.{numberOf, findingOf}
+use Rattle.session.specs.Answers.{numberOf}
 use Rattle.rules.specs.declared.resolve.Resolved.{Resolved}
 use Rattle.rules.specs.Read.{Held, Undecided, Resolves}
 use Rattle.rules.proofs.HeldLaws.{Finds, line-count, line-is}
@@ -26,18 +26,12 @@ use Rattle.rules.proofs.FindingWalk.{whole, past, fails}
 -- a refusal where the tests find it
 pub refused : {n : ℕ} {s : Session} {t : Tables} {p i j : ℕ} {why : Refusal} {r : Resolved}
     → Undecided why r → Finds n s t (RS p i j) (fail (numberOf why)) → Resolves n s t p i j r
-refused {r = r} u e =
+refused u e =
     record {
       judged = u .refused ∙ e;
-      few-first = omega (arith, u .no-first);
-      few-second = omega (arith, u .no-second);
-      first = not-passed;
-      second = not-passed;
-      long = not-passed;
+      few = omega (arith, u .none);
+      line = λ q. let z = sym (u .refused) ∙ q in never (cc);
     }
-  where
-    not-passed : {X : Type 0} → findingOf (r .verdict) ≡ pass → X
-    not-passed q = let z = sym (u .refused) ∙ q in never (cc)
 
 -- the tests that are left where the pivot and both parents are in force, by the parents' literals
 abbrev pub left : ℕ → List ℕ → List ℕ → List Check

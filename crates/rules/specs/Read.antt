@@ -4,8 +4,7 @@ use mathlib.Core.List.{List}
 use Prim.Native.Nat.{ℕ, _≤_}
 use lib.ListN.{length, take}
 use Rattle.ledger.specs.Limits.{mostLevels, longestLine}
-use Rattle.ledger.specs.Literals.{unnegated, negated, without}
-use Rattle.ledger.specs.Ledger.{nthLine}
+use Rattle.ledger.specs.Literals.{without}
 use Rattle.ledger.specs.Record.{Rule, RS}
 use Rattle.ledger.specs.Apply.{pass, fail, finding}
 use Rattle.ledger.specs.Checks.{tests, Passed, resolvent}
@@ -43,14 +42,10 @@ pub record Gathered (line : List ℕ) (less : ℕ) (r : Literals) : Type 0 where
 -- a refusal, and nothing else
 pub record Undecided (why : Refusal) (r : Resolved) : Type 0 where
   pub refused : findingOf (r .verdict) ≡ fail (numberOf why)
-  pub no-first : r .first .count ≡ 0
-  pub no-second : r .second .count ≡ 0
+  pub none : r .count ≡ 0
 
--- the verdict, and where the tests pass, what each parent leaves and how long the line is
+-- the verdict, and where the tests pass, the line
 pub record Resolves (n : ℕ) (s : Session) (t : Tables) (p i j : ℕ) (r : Resolved) : Type 0 where
   pub judged : Judged n s t (RS p i j) (r .verdict)
-  pub few-first : r .first .count ≤ longestLine
-  pub few-second : r .second .count ≤ longestLine
-  pub first : findingOf (r .verdict) ≡ pass → literalsIn (r .first) ≡ without (unnegated p) (nthLine (ledgerOf n s t .lines) i)
-  pub second : findingOf (r .verdict) ≡ pass → literalsIn (r .second) ≡ without (negated p) (nthLine (ledgerOf n s t .lines) j)
-  pub long : findingOf (r .verdict) ≡ pass → r .length ≡ length (resolvent (ledgerOf n s t .lines) p i j)
+  pub few : r .count ≤ longestLine
+  pub line : findingOf (r .verdict) ≡ pass → take (r .count) (r .cells) ≡ resolvent (ledgerOf n s t .lines) p i j

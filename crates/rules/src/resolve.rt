@@ -4,7 +4,6 @@ ghost use Prim.Native.Nat.{_≤_, _<_};
 ghost use lib.ListN.{length};
 ghost use Rattle.rows.specs.Limits.{unknowns};
 ghost use Rattle.ledger.specs.Limits.{longestLine};
-ghost use Rattle.ledger.specs.Literals.{without};
 ghost use Rattle.session.specs.Cells.{tables, literalsAt};
 ghost use Rattle.rules.specs.Read.{Held, Gathered, Resolves, Undecided};
 use records::fields::Literals;
@@ -12,11 +11,14 @@ use session::answers::Refusal;
 use session::answers::Verdict;
 use session::state::Session;
 
+// The most literals of two lines.
+pub const TWO_LINES: usize = 2 * Session::LONGEST_LINE;
+
+// The verdict, and the line.
 pub struct Resolved {
     pub verdict: Verdict,
-    pub first: Literals,
-    pub second: Literals,
-    pub length: usize,
+    pub cells: [u16; TWO_LINES],
+    pub count: usize,
 }
 
 // The literals of line i.
@@ -40,30 +42,21 @@ fn gather(line: &[u16], less: u16) -> Literals
     let mut i: usize = 0;
     while i < line.len() {
         let x = line[i];
-        if x == less {
-            i += 1;
-        } else {
-            cells[count] = x;
-            count += 1;
-            i += 1;
-        }
+        cells[count] = x;
+        count += (x != less) as usize;
+        i += 1;
     }
     Literals { cells, count }
 }
 
-// A refusal, with nothing gathered.
+// A refusal, with no line.
 fn refuse(why: Refusal) -> Resolved
     ensures { λ r. ⌜ Undecided why r ⌝ }
 {
-    let none = Literals {
-        cells: [0u16; Session::LONGEST_LINE],
-        count: 0,
-    };
     Resolved {
         verdict: Verdict::Fail(why),
-        first: none,
-        second: none,
-        length: 0,
+        cells: [0u16; TWO_LINES],
+        count: 0,
     }
 }
 
@@ -102,14 +95,14 @@ pub fn resolve(
     let n = first.count;
     let ys = second.cells;
     let m = second.count;
-    let length = writes::join::joined_length(&xs[0..n], &ys[0..m]);
-    if Session::LONGEST_LINE < length {
+    let mut cells = [0u16; TWO_LINES];
+    let count = writes::join::join_into(&mut cells, &xs[0..n], &ys[0..m]);
+    if Session::LONGEST_LINE < count {
         return refuse(Refusal::LineTooLong);
     }
     Resolved {
         verdict: Verdict::Pass,
-        first,
-        second,
-        length,
+        cells,
+        count,
     }
 }

@@ -1,11 +1,12 @@
 -- A loop that writes a list to the front of a slice, one cell a turn: what is written, then what is still to come, is the whole.
 use mathlib.Core.Path.{_≡_, refl, sym, ap, _∙_}
 use mathlib.Core.List.{List, [], _∷_, _++_, append-assoc, append-nil}
-use Prim.Native.Nat.{ℕ, _+_, _≤_, _<_}
+use Prim.Native.Nat.{ℕ, _+_, _-_, _≤_, _<_}
+use native.Mathlib.Nat.{sub-zero}
 use native.Mathlib.Numerals.{add-one}
 use native.Mathlib.Omega.{arith}
 use lib.ListN.{length, take, drop, set, length-append, length-set, take-append-drop}
-use lib.Seq.{length-take-le, take-suc-set, drop-set-lt, drop-drop}
+use lib.Seq.{length-take-le, take-suc-set, take-append-seam, drop-set-lt, drop-drop}
 
 -- n cells of out, which was out₀, are written, and `rest` is still to come
 pub record Written {A : Type 0} (out out₀ rest whole : List A) (n : ℕ) : Type 0 where
@@ -42,3 +43,7 @@ module _ {A : Type 0} (out out₀ rest whole : List A) (n : ℕ) (w : Written ou
       let m : n ≡ length whole = omega (arith, to-come, ap length e) in
       let t : take n out ≡ whole = simp (e, append-nil) at (w .made) in
       sym (take-append-drop n out) ∙ simp (t, w .left) (rw m)
+
+-- the k cells in front, which are written, are read back
+pub front : {A : Type 0} (xs more out : List A) (k : ℕ) → k ≡ length xs → out ≡ xs ++ more → (k ≤ length out) × (take (k - 0) out ≡ xs)
+front xs more out k e d = rw (e, d) (rw length-append (omega arith), rw sub-zero (take-append-seam xs more))

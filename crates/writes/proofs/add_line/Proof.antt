@@ -75,7 +75,7 @@ returns c =
     let xs = joined (now (a .a)) (now (a .b)) in
     record {
       session = ap (withLine (a .s)) n;
-      pool = part-written (now (a .pool)) _ xs (a .s .literals) (omega arith) (p .join-into .ensures);
+      pool = part-written (now (a .pool)) _ xs (a .s .literals) (omega arith) (p .join-into .ensures .1);
       lines = rw n (two-written (now (a .lines)) (lineCells * a .s .lines) (a .s .literals + length xs) (a .origin) (omega arith));
     }
 

@@ -1,19 +1,14 @@
 -- `keep::keep_three` meets its contract. The last two literals are joined first, to the front of an array.
 use mathlib.Core.Path.{_≡_}
-use mathlib.Core.List.{List, [], _∷_, _++_}
+use mathlib.Core.List.{List, [], _∷_}
 use Prim.Native.Nat.{ℕ, _-_, _≤_}
-use native.Mathlib.Nat.{sub-zero}
-use native.Mathlib.Omega.{arith}
-use lib.ListN.{length, take, length-append}
-use lib.Seq.{take-append-seam}
+use lib.ListN.{length, take}
 use Rattle.ledger.specs.Literals.{joined}
 use Rattle.ledger.proofs.LiteralLaws.{length-joined}
+use Rattle.writes.proofs.Filler.{front}
 use borrow.Author.Needs.{needs}
 use Rattle.checker.proofs.keep.keep_three.Statement.{statement}
 use Rattle.checker.proofs.keep.keep_three.Tie as tie
-
-front : (xs more out : List ℕ) (k : ℕ) → k ≡ length xs → out ≡ xs ++ more → (k ≤ length out) × (take (k - 0) out ≡ xs)
-front xs more out k e d = rw (e, d) (rw length-append (omega arith), rw sub-zero (take-append-seam xs more))
 
 module _ (c : tie.After-join-into) where
   abbrev two : ℕ
@@ -27,7 +22,7 @@ module _ (c : tie.After-join-into) where
 
   -- the pair lies in front of what is left of the array
   in-front : (two ≤ length rest) × (take (two - 0) rest ≡ pair)
-  in-front = front pair _ rest two (c .before .before .before .before .joined-length .ensures) (c .join-into .ensures)
+  in-front = front pair _ rest two (c .before .before .before .before .joined-length .ensures) (c .join-into .ensures .1)
 
 slice-aggregate-joined-length : tie.Need-slice-aggregate-joined-length
 slice-aggregate-joined-length c = search needs

@@ -1,14 +1,14 @@
 -- `checker::steps::resolution` meets its contract.
-use mathlib.Core.Path.{_≡_, sym, ap, ap₂, _∙_}
+use mathlib.Core.Path.{_≡_, sym, ap, _∙_}
 use mathlib.Core.List.{List}
-use Prim.Native.Nat.{ℕ, _-_}
+use Prim.Native.Nat.{ℕ, _*_, _-_}
 use native.Mathlib.Nat.{sub-zero}
 use native.Mathlib.Omega.{arith}
 use borrow.Author.Needs.{needs}
 use lib.ListN.{length, length-map, take}
+use lib.Seq.{length-take-le}
 use Rattle.rows.specs.Limits.{unknowns}
 use Rattle.ledger.specs.Limits.{longestLine}
-use Rattle.ledger.specs.Literals.{joined}
 use Rattle.ledger.specs.Record.{Rule, RS}
 use Rattle.ledger.specs.Apply.{pass, kept}
 use Rattle.ledger.specs.Checks.{makes, resolvent, derivedLine}
@@ -55,24 +55,21 @@ passed c = ap findingOf (c .enum-told .given .1)
 passes : (c : tie.After-enum-told) → let b = c .before .before .before .before .before .before .before in Passes unknowns (b .args .s) (cells b) (rule b)
 passes c = sym (c .before .before .resolve .ensures .judged) ∙ passed c
 
-first-full : (c : tie.After-resolve) → length (c .resolve .result .first .cells) ≡ longestLine
-first-full c = simp length-map at (c .resolve .ok .1 .1 .1 .0 .1 .1 .0 .1 .0 .1)
+full : (c : tie.After-resolve) → length (c .resolve .result .cells) ≡ 2 * longestLine
+full c = simp length-map at (c .resolve .ok .1 .1 .1 .0 .1 .0 .1)
 
-second-full : (c : tie.After-resolve) → length (c .resolve .result .second .cells) ≡ longestLine
-second-full c = simp length-map at (c .resolve .ok .1 .1 .1 .1 .0 .1 .1 .0 .1 .0 .1)
-
--- the parts that are lent, joined, are the resolvent
+-- the part that is lent is the resolvent
 lent : (c : tie.After-enum-told) →
     let b = c .before .before .before .before .before .before .before in
     let r = c .before .before .resolve .result in
-    joined (take (r .first .count - 0) (r .first .cells)) (take (r .second .count - 0) (r .second .cells))
+    take (r .count - 0) (r .cells)
     ≡ resolvent (ledgerOf unknowns (b .args .s) (cells b) .lines) (b .args .pivot) (b .args .i) (b .args .j)
 lent c =
-    let r = c .before .before .resolve .result in
-    let e = c .before .before .resolve .ensures in
-    ap₂ (λ (xs ys : List ℕ). joined xs ys)
-    (ap (λ (k : ℕ). take k (r .first .cells)) (sub-zero (r .first .count)) ∙ e .first (passed c))
-    (ap (λ (k : ℕ). take k (r .second .cells)) (sub-zero (r .second .count)) ∙ e .second (passed c))
+    let r = c .before .before .resolve in
+    ap (λ (k : ℕ). take k (r .result .cells)) (sub-zero (r .result .count)) ∙ r .ensures .line (passed c)
+
+slice-aggregate-keep-line : tie.Need-slice-aggregate-keep-line
+slice-aggregate-keep-line c = search needs
 
 sub-keep-line : tie.Need-sub-keep-line
 sub-keep-line c = search needs
@@ -81,22 +78,14 @@ part-keep-line-start : tie.Need-part-keep-line-start
 part-keep-line-start c = search needs
 
 part-keep-line-end : tie.Need-part-keep-line-end
-part-keep-line-end c = let r = c .before .before .before .before .before .before .before .before .before in omega (arith, first-full r, r .resolve .ensures .few-first)
-
-sub-keep-line-2 : tie.Need-sub-keep-line-2
-sub-keep-line-2 c = search needs
-
-part-keep-line-start-2 : tie.Need-part-keep-line-start-2
-part-keep-line-start-2 c = search needs
-
-part-keep-line-end-2 : tie.Need-part-keep-line-end-2
-part-keep-line-end-2 c = let r = c .before .before .before .before .before .before .before .before .before .before .before in omega (arith, second-full r, r .resolve .ensures .few-second)
+part-keep-line-end c = let r = c .before .before .before .before .before .before .before in omega (arith, full r, r .resolve .ensures .few)
 
 keep-line-requires : tie.Need-keep-line-requires
 keep-line-requires c κs =
-    let e = c .before .before .before .before .before .before .before .before .before .before in
-    let r = e .before .before in
-    (r .before .before .before .before .before .pre, r .resolve .ensures .long (passed e) ∙ ap (λ (xs : List ℕ). length xs) (sym (lent e)))
+    let r = c .before .before .before .before .before .before .before .before in
+    let few = r .resolve .ensures .few in
+    let whole = length-take-le (r .resolve .result .count) (r .resolve .result .cells) (omega (arith, full r, few)) in
+    (r .before .before .before .before .before .pre, simp sub-zero (sym whole))
 
 same-length-3 : tie.Need-same-length-3
 same-length-3 c = search needs
@@ -107,7 +96,7 @@ same-length-4 c = search needs
 returns-2 : tie.Need-returns-2
 unfolding makes
 returns-2 c =
-    let e = c .before .before .before .before .before .before .before .before .before .before .before .before .before .before .before in
+    let e = c .before .before .before .before .before .before .before .before .before .before .before in
     let b = e .before .before .before .before .before .before .before in
     let l = ledgerOf unknowns (b .args .s) (cells b) in
     c .before .before .before .before .keep-line .ensures
@@ -125,12 +114,10 @@ resolution-spec =
     same-length-2
     returns
     enum-told
+    slice-aggregate-keep-line
     sub-keep-line
     part-keep-line-start
     part-keep-line-end
-    sub-keep-line-2
-    part-keep-line-start-2
-    part-keep-line-end-2
     keep-line-requires
     same-length-3
     same-length-4

@@ -1,13 +1,16 @@
 -- `rules::resolve::gather` meets its contract. Invariant: what is filled in, then what is left of the line less the literal, is the whole.
 use mathlib.Core.Path.{_≡_, refl}
+use mathlib.Core.Bool.{Bool, not}
 use mathlib.Core.List.{_++_}
 use Prim.Native.Nat.{_-_, _≤_}
 use native.Mathlib.Omega.{arith}
 use borrow.Author.Needs.{needs}
-use lib.ListN.{length, take, drop, length-set}
+use lib.Dec.{eqb}
+use lib.ListN.{length, getD, take, drop, length-set}
+use Rattle.ints.proofs.Bools.{at-most-one}
 use Rattle.ledger.specs.Limits.{longestLine}
 use Rattle.ledger.specs.Literals.{without}
-use Rattle.rules.proofs.LessLaws.{skips, keeps, filled}
+use Rattle.rules.proofs.LessLaws.{fills, filled}
 use Rattle.rules.proofs.resolve.gather.Statement.{statement}
 use Rattle.rules.proofs.resolve.gather.Tie as tie
 
@@ -30,6 +33,22 @@ mul-x c = search needs
 shared-slice-read-x : tie.Need-shared-slice-read-x Inv-loop μ-loop
 shared-slice-read-x c = search needs
 
+mul-cells : tie.Need-mul-cells Inv-loop μ-loop
+mul-cells c = search needs
+
+array-write-cells : tie.Need-array-write-cells Inv-loop μ-loop
+array-write-cells c = search needs
+
+cast-count : tie.Need-cast-count Inv-loop μ-loop
+cast-count c = search needs
+
+-- the literal is another
+abbrev other : tie.After-shared-slice-known Inv-loop μ-loop → Bool
+other c = let l = c .before .before in not (eqb (getD (l .before .args .line .now) (l .loop .i) 0) (l .before .args .less))
+
+add-count : tie.Need-add-count Inv-loop μ-loop
+add-count c = omega (arith, at-most-one (other c))
+
 add-i : tie.Need-add-i Inv-loop μ-loop
 add-i c = search needs
 
@@ -38,35 +57,13 @@ loop-less c = search needs
 
 loop-again : tie.Need-loop-again Inv-loop μ-loop
 loop-again c =
-    let l = c .before .before .before in
-    let (k, n, size, done) = l .loop .inv in
-    let a = l .before .args in
-    (omega arith, omega arith, size, skips (a .less) (l .loop .i) (l .loop .count) (a .line .now) (l .loop .cells) done (omega arith) (c .if1 .taken))
-
-mul-cells : tie.Need-mul-cells Inv-loop μ-loop
-mul-cells c = search needs
-
-array-write-cells : tie.Need-array-write-cells Inv-loop μ-loop
-array-write-cells c = search needs
-
-add-count : tie.Need-add-count Inv-loop μ-loop
-add-count c = search needs
-
-add-i-2 : tie.Need-add-i-2 Inv-loop μ-loop
-add-i-2 c = search needs
-
-loop-less-2 : tie.Need-loop-less-2 Inv-loop μ-loop
-loop-less-2 c = search needs
-
-loop-again-2 : tie.Need-loop-again-2 Inv-loop μ-loop
-loop-again-2 c =
-    let l = c .before .before .before in
+    let l = c .before .before in
     let (k, n, size, done) = l .loop .inv in
     let a = l .before .args in (
       omega arith,
-      omega arith,
+      omega (arith, at-most-one (other c)),
       simp length-set size,
-      keeps (a .less) (l .loop .i) (l .loop .count) (a .line .now) (l .loop .cells) done (omega arith) (omega arith) (c .if1 .left),
+      fills (a .less) (l .loop .i) (l .loop .count) (a .line .now) (l .loop .cells) done (omega arith) (omega arith),
     )
 
 returns : tie.Need-returns Inv-loop μ-loop
@@ -87,13 +84,11 @@ gather-spec =
     loop-holds
     mul-x
     shared-slice-read-x
+    mul-cells
+    array-write-cells
+    cast-count
+    add-count
     add-i
     loop-less
     loop-again
-    mul-cells
-    array-write-cells
-    add-count
-    add-i-2
-    loop-less-2
-    loop-again-2
     returns)

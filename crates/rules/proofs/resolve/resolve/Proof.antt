@@ -1,22 +1,23 @@
 -- `rules::resolve::resolve` meets its contract: a parent holds its literal of the pivot exactly where it is longer than what it leaves.
-use mathlib.Core.Path.{_≡_, ap₂, _∙_}
+use mathlib.Core.Path.{_≡_, ap, ap₂, _∙_}
 use mathlib.Core.Bool.{true}
 use mathlib.Core.List.{List}
-use Prim.Native.Nat.{ℕ, _≤_, _<_}
+use Prim.Native.Nat.{ℕ, _-_, _≤_, _<_}
 use native.Mathlib.Nat.{sub-zero}
 use native.Mathlib.Omega.{arith}
 use borrow.Author.Needs.{needs}
 use borrow.Author.Tests.{lt-leb, le-leb}
-use lib.ListN.{length, length-map}
+use lib.ListN.{length, length-map, take}
 use Rattle.ledger.specs.Limits.{mostForms, longestLine}
 use Rattle.ledger.specs.Literals.{unnegated, negated, holds, joined, without}
 use Rattle.ledger.specs.Record.{RS}
 use Rattle.ledger.specs.Apply.{Finding, finding}
 use Rattle.session.specs.Cells.{tables, literalsAt}
 use Rattle.rows.specs.Limits.{unknowns}
+use Rattle.writes.proofs.Filler.{front}
 use Rattle.rules.specs.Read.{literalsIn}
 use Rattle.rules.proofs.HeldLaws.{Finds, held-clauses, line-few, line-is}
-use Rattle.rules.proofs.LessLaws.{left-is, none-lost, some-lost}
+use Rattle.rules.proofs.LessLaws.{left-is, none-lost, some-lost, both-fit}
 use Rattle.rules.proofs.FindingWalk.{whole, past, fails, passes}
 use Rattle.rules.proofs.Resolving.{left, refused, no-pivot, no-first, no-second, read}
 use Rattle.rules.proofs.resolve.resolve.Statement.{statement}
@@ -145,30 +146,36 @@ second-holds c =
     let g = c .before .before .before .before in
     some-lost (g .before .before .literals-of2 .ensures) (g .gather2 .ensures) (full-2 g) (c .if5 .left)
 
-sub-joined-length : tie.Need-sub-joined-length
-sub-joined-length c = search needs
+slice-aggregate-join-into : tie.Need-slice-aggregate-join-into
+slice-aggregate-join-into c = search needs
 
-part-joined-length-start : tie.Need-part-joined-length-start
-part-joined-length-start c = search needs
+sub-join-into : tie.Need-sub-join-into
+sub-join-into c = search needs
 
-part-joined-length-end : tie.Need-part-joined-length-end
-part-joined-length-end c =
-    let b = c .before .before .before .before .before .before .before .before in
+part-join-into-start : tie.Need-part-join-into-start
+part-join-into-start c = search needs
+
+part-join-into-end : tie.Need-part-join-into-end
+part-join-into-end c =
+    let b = c .before .before .before .before .before .before .before .before .before in
     omega (arith, full b, b .gather .ensures .few)
 
-sub-joined-length-2 : tie.Need-sub-joined-length-2
-sub-joined-length-2 c = search needs
+sub-join-into-2 : tie.Need-sub-join-into-2
+sub-join-into-2 c = search needs
 
-part-joined-length-start-2 : tie.Need-part-joined-length-start-2
-part-joined-length-start-2 c = search needs
+part-join-into-start-2 : tie.Need-part-join-into-start-2
+part-join-into-start-2 c = search needs
 
-part-joined-length-end-2 : tie.Need-part-joined-length-end-2
-part-joined-length-end-2 c =
-    let b = c .before .before .before .before .before .before .before .before .before in
+part-join-into-end-2 : tie.Need-part-join-into-end-2
+part-join-into-end-2 c =
+    let b = c .before .before .before .before .before .before .before .before .before .before in
     omega (arith, full-2 b, b .gather2 .ensures .few)
 
-joined-length-requires : tie.Need-joined-length-requires
-joined-length-requires c κs = search needs
+join-into-requires : tie.Need-join-into-requires
+join-into-requires c κs =
+    let g = c .before .before .before .before .before .before .before .before .before .before .before in
+    let b = g .before in
+    both-fit (b .gather .result) (g .gather2 .result) (full b) (full-2 g) (b .gather .ensures .few) (g .gather2 .ensures .few)
 
 refuse-requires-6 : tie.Need-refuse-requires-6
 refuse-requires-6 c κs = search needs
@@ -182,42 +189,55 @@ left-second : (c : tie.After-gather2) →
     let b = c .before .before in literalsIn (c .gather2 .result) ≡ without (negated (start b .args .pivot)) (second b)
 left-second c = left-is (c .before .before .literals-of2 .ensures) (c .gather2 .ensures)
 
--- as long as what both leave, joined
-long-is : (c : tie.After-joined-length) →
-    let b = c .before .before .before .before .before .before .before .before .before .before .before .before .before in
+-- what both leave, joined
+abbrev whole-line : tie.After-gather2 → List ℕ
+whole-line c =
+    let b = c .before .before in
     let p = start b .args .pivot in
-    c .joined-length .result ≡ length (joined (without (unnegated p) (first b)) (without (negated p) (second b)))
-long-is c =
-    let g = c .before .before .before .before .before .before .before .before .before .before .before in
-    simp sub-zero at (c .joined-length .ensures)
-    ∙ ap₂ (λ (xs ys : List ℕ). length (joined xs ys)) (left-first (g .before)) (left-second g)
+    joined (without (unnegated p) (first b)) (without (negated p) (second b))
+
+-- and what is lent, joined
+abbrev lent : tie.After-gather2 → List ℕ
+lent c =
+    let x = c .before .gather .result in
+    let y = c .gather2 .result in
+    joined (take (x .count - 0) (x .cells)) (take (y .count - 0) (y .cells))
+
+lent-is : (c : tie.After-gather2) → lent c ≡ whole-line c
+lent-is c = simp sub-zero (ap₂ (λ (xs ys : List ℕ). joined xs ys) (left-first (c .before)) (left-second c))
+
+module _ (c : tie.After-join-into) where
+  abbrev both : tie.After-gather2
+  both = c .before .before .before .before .before .before .before .before .before .before .before .before
+
+  count-is : c .join-into .result ≡ length (whole-line both)
+  count-is = c .join-into .ensures .0 ∙ ap (λ (xs : List ℕ). length xs) (lent-is both)
+
+  -- it lies in front
+  front-is : take (c .join-into .result) (c .join-into .last .0) ≡ whole-line both
+  front-is = simp sub-zero at (front (lent both) _ _ _ (c .join-into .ensures .0) (c .join-into .ensures .1) .1 ∙ lent-is both)
 
 returns-6 : tie.Need-returns-6
 returns-6 c =
-    let l = c .before .before in
-    let k = l .before .before .before .before .before .before .before in
+    let l = c .before .before .before in
+    let k = l .before .before .before .before .before .before .before .before in
     let g = k .before .before .before .before in
-    let long = rw (long-is l) at (lt-leb (l .joined-length .result) longestLine (omega arith)) in
+    let long = rw (count-is l) at (lt-leb (l .join-into .result) longestLine (omega arith)) in
     refused (c .refuse6 .ensures) (finds g (fails (past (past whole (first-holds (k .before .before))) (second-holds k)) long))
 
 returns-7 : tie.Need-returns-7
 returns-7 c =
-    let l = c .before in
-    let k = l .before .before .before .before .before .before .before in
+    let l = c .before .before in
+    let k = l .before .before .before .before .before .before .before .before in
     let g = k .before .before .before .before in
     let b = g .before .before in
     let s = start b in
-    let short = rw (long-is l) at (le-leb (l .joined-length .result) longestLine (omega arith)) in
+    let short = rw (count-is l) at (le-leb (l .join-into .result) longestLine (omega arith)) in
     let (_, i, j) = in-force b in
-    let first-is = line-is (s .pre) (s .args .i) i in
-    let second-is = line-is (s .pre) (s .args .j) j in
     record {
       judged = finds g (passes (past (past (past whole (first-holds (k .before .before))) (second-holds k)) short));
-      few-first = g .before .gather .ensures .few;
-      few-second = g .gather2 .ensures .few;
-      first = λ _. rw first-is (left-first (g .before));
-      second = λ _. rw second-is (left-second g);
-      long = λ _. rw (first-is, second-is) (long-is l);
+      few = omega arith;
+      line = λ _. rw (line-is (s .pre) (s .args .i) i, line-is (s .pre) (s .args .j) j) (front-is l);
     }
 
 pub resolve-spec : {M : Type 1} → statement M
@@ -241,13 +261,14 @@ resolve-spec =
     returns-4
     refuse-requires-5
     returns-5
-    sub-joined-length
-    part-joined-length-start
-    part-joined-length-end
-    sub-joined-length-2
-    part-joined-length-start-2
-    part-joined-length-end-2
-    joined-length-requires
+    slice-aggregate-join-into
+    sub-join-into
+    part-join-into-start
+    part-join-into-end
+    sub-join-into-2
+    part-join-into-start-2
+    part-join-into-end-2
+    join-into-requires
     refuse-requires-6
     returns-6
     returns-7)

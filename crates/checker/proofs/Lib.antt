@@ -1,4 +1,4 @@
-mod Beside
+pub mod Beside
 mod Bridge
 pub mod FeedLaws
 mod Feeding

@@ -1,0 +1,62 @@
+-- What calls since a start leave, each on the session and tables that the call before it returned, and the records that they fed.
+use mathlib.Core.List.{List, [], _∷_, _++_, reverse}
+use Prim.Native.Nat.{ℕ}
+use lib.ListN.{take}
+use Rattle.ledger.specs.Record.{isAccepted}
+use Rattle.ledger.specs.Run.{recordsOf}
+use Rattle.ledger.specs.History.{bytesInForce}
+use Rattle.session.specs.declared.state.Session.{Session}
+use Rattle.session.specs.Cells.{Tables}
+use Rattle.session.specs.Calls.{start}
+use Rattle.checker.specs.Feed.{feed}
+use Rattle.checker.specs.Run.{run}
+
+-- a record fed, or a run over a stream; the standing changes nothing
+pub data Call : Type 0 where
+  fed : List ℕ → Call
+  ran : List ℕ → Call
+
+pub record State : Type 0 where
+  pub session : Session
+  pub tables : Tables
+
+abbrev pub state : Session → Tables → State
+state s t = record { session = s; tables = t }
+
+-- ---- what calls leave
+
+abbrev pub begun : ℕ → Tables → State
+begun n t = state (start n t .session) (start n t .tables)
+
+abbrev pub called : ℕ → State → Call → State
+called n s (fed b) = state (feed n (s .session) (s .tables) b .session) (feed n (s .session) (s .tables) b .tables)
+called n s (ran b) = state (run n (s .session) (s .tables) b .session) (run n (s .session) (s .tables) b .tables)
+
+-- the first call first, and each gets what the call before it returned
+unfoldable pub calledAll : ℕ → State → List Call → State
+calledAll n s [] = s
+calledAll n s (c ∷ cs) = calledAll n (called n s c) cs
+
+-- ---- the records that calls fed
+
+-- of a stream those that the run accepted: the one that stops it changes nothing, and none after it is fed
+abbrev pub recordsBy : ℕ → State → Call → List (List ℕ)
+recordsBy n s (fed b) = b ∷ []
+recordsBy n s (ran b) = take (run n (s .session) (s .tables) b .records) (recordsOf b)
+
+unfoldable pub recordsFed : ℕ → State → List Call → List (List ℕ)
+recordsFed n s [] = []
+recordsFed n s (c ∷ cs) = recordsBy n s c ++ recordsFed n (called n s c) cs
+
+-- since the start, the latest first
+abbrev pub history : ℕ → Tables → List Call → List (List ℕ)
+history n t cs = reverse (recordsFed n (begun n t) cs)
+
+-- those still in force, the first first
+abbrev pub stillInForce : ℕ → Tables → List Call → List (List ℕ)
+stillInForce n t cs = reverse (bytesInForce n (history n t cs))
+
+-- records fed one after the other, each of which is accepted
+unfoldable pub EachAccepted : ℕ → State → List (List ℕ) → Type 0
+EachAccepted n s [] = Unit {0}
+EachAccepted n s (b ∷ bs) = isAccepted (feed n (s .session) (s .tables) b .answer) × EachAccepted n (called n s (fed b)) bs

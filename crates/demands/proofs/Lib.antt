@@ -1,2 +1,4 @@
 pub mod OnLedger
 pub mod WithdrawalExact
+pub mod Determined
+pub mod Useless

@@ -55,7 +55,7 @@ module _ (n : ℕ) where
 -- ---- a record fed to cells
 
 module _ (n : ℕ) (x : Tables) where
-  abbrev resultLaid : Answer → Ledger → Result
+  abbrev pub resultLaid : Answer → Ledger → Result
   resultLaid a l = record { answer = a; session = sessionOf l; tables = withExcess (tablesOf n l) x }
 
   module _ (l : Ledger) (g : Legal n l) where
@@ -76,7 +76,7 @@ module _ (n : ℕ) (x : Tables) where
 
   -- ---- a run
 
-  abbrev totalsLaid : Run → Totals
+  abbrev pub totalsLaid : Run → Totals
   totalsLaid r = totals (r .records) (r .bytes) (r .stop) (sessionOf (r .ledger)) (withExcess (tablesOf n (r .ledger)) x)
 
   each-laid : (k c : ℕ) (l : Ledger) → Legal n l → (bs : List (List ℕ))

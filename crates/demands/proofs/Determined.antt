@@ -1,0 +1,147 @@
+-- Each call's contract allows one outcome only: any two that meet it have the same answer, session and lent cells.
+use mathlib.Core.Path.{_≡_, refl, sym, ap, _∙_}
+use mathlib.Core.List.{List, [], _∷_}
+use Prim.Native.Nat.{ℕ}
+use lib.ListN.{getD}
+use Rattle.ledger.specs.Record as ledger
+use Rattle.ledger.specs.Run.{refuted, notRefuted}
+use Rattle.session.specs.declared.state.Session.{Session}
+use Rattle.session.specs.declared.answers.Refusal.{Refusal}
+use Rattle.session.specs.declared.answers.Refusal.the-variants.{ShortTable, NotInOrder, WrongLength, UnknownMark, CountOutside, IllegalContent, NoRoom, NotInForce, NotAscending, NotAllowed, ConditionFails, LineTooLong, NoLevelOpen}
+use Rattle.session.specs.declared.answers.Made.{Made}
+use Rattle.session.specs.declared.answers.Made.the-variants as Mades
+use Rattle.session.specs.declared.answers.Answer.{Answer}
+use Rattle.session.specs.declared.answers.Answer.the-variants as Answers
+use Rattle.session.specs.declared.answers.Verdict.{Verdict}
+use Rattle.session.specs.declared.answers.Verdict.the-variants as Verdicts
+use Rattle.session.specs.declared.answers.Start.{Start}
+use Rattle.session.specs.declared.answers.Start.the-variants as Starts
+use Rattle.session.specs.declared.answers.Standing.{Standing}
+use Rattle.session.specs.declared.answers.Standing.the-variants as Standings
+use Rattle.session.specs.declared.start.Begun.{Begun}
+use Rattle.session.specs.Cells.{Tables}
+use Rattle.session.specs.Answers.{numberOf, madeOf, answerOf, findingOf}
+use Rattle.session.specs.Calls.{Started, started, notStarted, Beginning, start, startOf, beginningOf, Stands, stands, noStanding, standing, standsOf}
+use Rattle.checker.specs.declared.keep.Fed.{Fed}
+use Rattle.checker.specs.declared.run.Ran.{Ran}
+use Rattle.checker.specs.Feed.{Result, feed, resultOf}
+use Rattle.checker.specs.Run.{Totals, run, stopNumber, totalsOf}
+
+-- ---- from the numbers and values of the specification back to the code's answers
+
+-- what has a way back tells its arguments apart
+apart : {A B : Type 0} (to : A → B) (back : B → A) → ((x : A) → back (to x) ≡ x) → {x y : A} → to x ≡ to y → x ≡ y
+apart to back known {x} {y} e = sym (known x) ∙ ap back e ∙ known y
+
+verdicts : List Verdict
+verdicts =
+    Verdicts.Pass
+    ∷ Verdicts.Fail ShortTable
+    ∷ Verdicts.Fail NotInOrder
+    ∷ Verdicts.Fail WrongLength
+    ∷ Verdicts.Fail UnknownMark
+    ∷ Verdicts.Fail CountOutside
+    ∷ Verdicts.Fail IllegalContent
+    ∷ Verdicts.Fail NoRoom
+    ∷ Verdicts.Fail NotInForce
+    ∷ Verdicts.Fail NotAscending
+    ∷ Verdicts.Fail NotAllowed
+    ∷ Verdicts.Fail ConditionFails
+    ∷ Verdicts.Fail LineTooLong
+    ∷ Verdicts.Fail NoLevelOpen
+    ∷ []
+
+-- of the number that stops a run, where 0 is no refusal's
+abbrev verdict : ℕ → Verdict
+verdict k = getD verdicts k Verdicts.Pass
+
+verdict-known : (v : Verdict) → verdict (stopNumber (findingOf v)) ≡ v
+unfolding verdicts
+verdict-known Verdicts.Pass = refl
+verdict-known (Verdicts.Fail ShortTable) = refl
+verdict-known (Verdicts.Fail NotInOrder) = refl
+verdict-known (Verdicts.Fail WrongLength) = refl
+verdict-known (Verdicts.Fail UnknownMark) = refl
+verdict-known (Verdicts.Fail CountOutside) = refl
+verdict-known (Verdicts.Fail IllegalContent) = refl
+verdict-known (Verdicts.Fail NoRoom) = refl
+verdict-known (Verdicts.Fail NotInForce) = refl
+verdict-known (Verdicts.Fail NotAscending) = refl
+verdict-known (Verdicts.Fail NotAllowed) = refl
+verdict-known (Verdicts.Fail ConditionFails) = refl
+verdict-known (Verdicts.Fail LineTooLong) = refl
+verdict-known (Verdicts.Fail NoLevelOpen) = refl
+
+abbrev failure : Verdict → Refusal
+failure Verdicts.Pass = ShortTable
+failure (Verdicts.Fail r) = r
+
+abbrev refusal : ℕ → Refusal
+refusal k = failure (verdict k)
+
+refusal-known : (r : Refusal) → refusal (numberOf r) ≡ r
+refusal-known r = ap failure (verdict-known (Verdicts.Fail r))
+
+abbrev made : ledger.Made → Made
+made (ledger.form f) = Mades.Form f
+made (ledger.line i) = Mades.Line i
+made (ledger.level k) = Mades.Level k
+
+made-known : (m : Made) → made (madeOf m) ≡ m
+made-known (Mades.Form f) = refl
+made-known (Mades.Line i) = refl
+made-known (Mades.Level k) = refl
+
+abbrev answer : ledger.Answer → Answer
+answer (ledger.accepted m) = Answers.Accepted (made m)
+answer (ledger.refused k) = Answers.Refused (refusal k)
+
+answer-known : (a : Answer) → answer (answerOf a) ≡ a
+answer-known (Answers.Accepted m) = ap Answers.Accepted (made-known m)
+answer-known (Answers.Refused r) = ap Answers.Refused (refusal-known r)
+
+abbrev beginning : Started → Start
+beginning started = Starts.Started
+beginning (notStarted k) = Starts.Refused (refusal k)
+
+beginning-known : (b : Start) → beginning (startOf b) ≡ b
+beginning-known Starts.Started = refl
+beginning-known (Starts.Refused r) = ap Starts.Refused (refusal-known r)
+
+abbrev standingBy : Stands → Standing
+standingBy (stands (refuted i)) = Standings.Refuted i
+standingBy (stands notRefuted) = Standings.NotRefuted
+standingBy (noStanding k) = Standings.Refused (refusal k)
+
+standing-known : (r : Standing) → standingBy (standsOf r) ≡ r
+standing-known (Standings.Refuted i) = refl
+standing-known Standings.NotRefuted = refl
+standing-known (Standings.Refused r) = ap Standings.Refused (refusal-known r)
+
+-- ---- the calls
+
+module _ (n : ℕ) where
+  pub start-determined : (u : Tables) (b b' : Begun) (t t' : Tables) → beginningOf b t ≡ start n u → beginningOf b' t' ≡ start n u
+      → (b ≡ b') × (t ≡ t')
+  start-determined u b b' t t' e e' =
+      let same : beginningOf b t ≡ beginningOf b' t' = e ∙ sym e' in
+      let answers = apart startOf beginning beginning-known (ap (λ (r : Beginning). r .answer) same) in
+      (λ i. record { session = same i .session; start = answers i }, ap (λ (r : Beginning). r .tables) same)
+
+  module _ (s : Session) (u : Tables) where
+    pub feed-determined : (b : List ℕ) (r r' : Fed) (t t' : Tables) → resultOf r t ≡ feed n s u b → resultOf r' t' ≡ feed n s u b
+        → (r ≡ r') × (t ≡ t')
+    feed-determined b r r' t t' e e' =
+        let same : resultOf r t ≡ resultOf r' t' = e ∙ sym e' in
+        let answers = apart answerOf answer answer-known (ap (λ (x : Result). x .answer) same) in
+        (λ i. record { session = same i .session; answer = answers i }, ap (λ (x : Result). x .tables) same)
+
+    pub run-determined : (b : List ℕ) (r r' : Ran) (t t' : Tables) → totalsOf r t ≡ run n s u b → totalsOf r' t' ≡ run n s u b
+        → (r ≡ r') × (t ≡ t')
+    run-determined b r r' t t' e e' =
+        let same : totalsOf r t ≡ totalsOf r' t' = e ∙ sym e' in
+        let stops = apart (λ (v : Verdict). stopNumber (findingOf v)) verdict verdict-known (ap (λ (x : Totals). x .stop) same) in
+        (λ i. record { session = same i .session; records = same i .records; bytes = same i .bytes; stop = stops i }, ap (λ (x : Totals). x .tables) same)
+
+    pub standing-determined : (r r' : Standing) → standsOf r ≡ standing n s u → standsOf r' ≡ standing n s u → r ≡ r'
+    standing-determined r r' e e' = apart standsOf standingBy standing-known (e ∙ sym e')

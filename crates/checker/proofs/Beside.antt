@@ -1,6 +1,6 @@
 -- Tables with something behind their named cells: the named cells and the excess come apart again, and a record does on them what it does on
 -- the named cells alone, where these are held, as they then are again.
-use mathlib.Core.Path.{_≡_, refl, sym, ap, subst, _∙_}
+use mathlib.Core.Path.{_≡_, subst}
 use mathlib.Core.List.{List, [], _∷_, _++_}
 use Prim.Native.Nat.{ℕ}
 use native.Mathlib.Omega.{arith}
@@ -9,7 +9,7 @@ use lib.ListN.{length, take, drop, take-append-drop, length-append}
 use lib.Seq.{take-append-seam, drop-append-seam}
 use Rattle.ledger.specs.Ledger.{Ledger}
 use Rattle.ledger.specs.Legal.{Legal}
-use Rattle.ledger.specs.Record.{Made, Answer, accepted, refused}
+use Rattle.ledger.specs.Record.{Answer, accepted, refused}
 use Rattle.ledger.specs.Checks.{Check, Passed}
 use Rattle.ledger.specs.Apply.{pass}
 use Rattle.ledger.specs.Bytes.{applyBytes}
@@ -25,8 +25,7 @@ use Rattle.laid.proofs.Sizes.{laid-sizes}
 use Rattle.laid.proofs.LegalLaid.{laid-in-order}
 use Rattle.rules.specs.Read.{Held}
 use Rattle.rules.proofs.HeldLaws.{held-legal}
-use Rattle.checker.specs.Feed.{Result, settled, stepped, beside, feed}
-use Rattle.checker.proofs.Bridge.{held-session, held-tables}
+use Rattle.checker.specs.Feed.{settled, stepped, beside, feed}
 
 pub restored : (n : ℕ) (t : Tables) → withExcess (named n t) (excess n t) ≡ t
 restored n t =

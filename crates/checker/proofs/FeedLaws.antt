@@ -1,30 +1,23 @@
 -- What feed promises, in the words of the demands: a refused call changes nothing, cells past the named ones never change, a record is accepted
 -- exactly where all tests pass and then stored as its rule gives it, and what was in order is in order again.
 use mathlib.Core.Path.{_≡_, refl, sym, ap, subst, _∙_}
-use mathlib.Core.List.{List, [], _∷_, _++_}
+use mathlib.Core.List.{List}
 use Prim.Native.Nat.{ℕ}
-use native.Mathlib.Omega.{arith}
-use lib.Dec.{T, leb, le→leb}
-use lib.ListN.{length, take, drop, take-append-drop, length-append}
-use lib.Seq.{take-append-seam, drop-append-seam}
+use lib.ListN.{length}
 use Rattle.ints.proofs.Bools.{never}
 use Rattle.ledger.specs.Limits.{mostLevels}
 use Rattle.ledger.specs.Ledger.{Ledger}
 use Rattle.ledger.specs.Legal.{Legal}
 use Rattle.ledger.specs.Record.{Made, Answer, accepted, refused}
-use Rattle.ledger.specs.Checks.{Check, Passed, checks}
+use Rattle.ledger.specs.Checks.{Passed, checks}
 use Rattle.ledger.specs.Apply.{Finding, pass, fail, Outcome, done, made}
 use Rattle.ledger.specs.Bytes.{shape, decode, applyBytes}
 use Rattle.ledger.proofs.Findings.{passed→pass, accepted-exactly, apply-accepted, bytes-accepted}
 use Rattle.ledger.proofs.LegalLaws.{legal-applyBytes}
 use Rattle.session.specs.declared.state.Session.{Session}
-use Rattle.session.specs.Limits.{formTable, poolTable, lineTable}
 use Rattle.session.specs.Cells.{Tables, tables, named, excess, withExcess, ledgerOf}
-use Rattle.session.specs.InOrder.{sizes, order}
 use Rattle.session.specs.Calls.{entry}
 use Rattle.laid.specs.Laid.{tablesOf, sessionOf}
-use Rattle.laid.proofs.Sizes.{laid-sizes}
-use Rattle.laid.proofs.LegalLaid.{laid-in-order}
 use Rattle.rules.proofs.HeldLaws.{held-legal}
 use Rattle.checker.specs.Feed.{unchanged, settled, stepped, beside, fedBy, feed}
 use Rattle.checker.proofs.Beside.{restored, laid-held, entry-beside, excess-beside}

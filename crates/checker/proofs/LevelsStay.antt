@@ -5,14 +5,14 @@ use Prim.Native.Nat.{ℕ}
 use lib.ListN.{length}
 use lib.Seq.{take-append-le}
 use Rattle.ledger.specs.Limits.{mostLevels}
-use Rattle.ledger.specs.Ledger.{Ledger, New, newForm, newLine, add}
+use Rattle.ledger.specs.Ledger.{New, newForm, newLine, add}
 use Rattle.ledger.specs.Record.{Rule, make, accepted}
 use Rattle.ledger.specs.Checks.{checks, makes}
 use Rattle.ledger.specs.Apply.{Finding, pass, fail, finding, judged, done, made, apply}
 use Rattle.session.specs.declared.state.Mark.{Mark}
 use Rattle.session.specs.declared.state.Session.{Session}
 use Rattle.session.specs.Cells.{Tables, noMark, ledgerOf}
-use Rattle.laid.specs.Laid.{padded, marksLaid, sessionOf}
+use Rattle.laid.specs.Laid.{padded, sessionOf}
 use Rattle.laid.proofs.LaidParts.{marks-agree}
 use Rattle.rules.specs.Read.{Held}
 use Rattle.rules.proofs.HeldLaws.{held-legal}

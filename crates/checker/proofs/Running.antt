@@ -1,6 +1,6 @@
 -- A run over held tables: record by record, as long as records are accepted, what is still to come decides the whole; and beside an excess the
 -- run is the same.
-use mathlib.Core.Path.{_≡_, refl, sym, ap, subst, _∙_}
+use mathlib.Core.Path.{_≡_, refl, sym, ap, _∙_}
 use mathlib.Core.List.{List, [], _∷_}
 use Prim.Native.Nat.{ℕ, zero, suc, _+_, _≤_, _<_}
 use native.Mathlib.Omega.{arith}
@@ -11,7 +11,7 @@ use Rattle.ledger.specs.Limits.{mostLevels}
 use Rattle.ledger.specs.Ledger.{Ledger}
 use Rattle.ledger.specs.Bytes.{applyBytes}
 use Rattle.ledger.specs.Record.{Made, Answer, accepted, refused}
-use Rattle.ledger.specs.Apply.{Finding, pass, fail}
+use Rattle.ledger.specs.Apply.{pass, fail}
 use Rattle.ledger.specs.Run.{front, split, recordsOf}
 use Rattle.ledger.proofs.RunLaws.{front-positive, records-step}
 use Rattle.session.specs.declared.state.Session.{Session}

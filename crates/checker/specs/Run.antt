@@ -15,7 +15,6 @@ use Rattle.session.specs.declared.state.Session.{Session}
 use Rattle.session.specs.Cells.{Tables}
 use Rattle.session.specs.Calls.{entry}
 use Rattle.session.specs.Answers.{numberOf, findingOf}
-use Rattle.session.specs.declared.answers.Verdict.{Verdict}
 use Rattle.records.specs.Marks.{recordMarkOf}
 use Rattle.checker.specs.declared.run.Ran.{Ran}
 use Rattle.checker.specs.declared.run.Way.{Way}

@@ -2,7 +2,7 @@
 -- those that the records still in force leave when they are fed alone to the same start, and where the standing is refuted no whole numbers
 -- for the unknowns make all premises in force true.
 use mathlib.Core.Path.{_≡_, sym, ap, subst, _∙_}
-use mathlib.Core.List.{List, [], _∷_, map, reverse, reverseAux, reverse-reverse}
+use mathlib.Core.List.{List, [], map, reverse, reverse-reverse}
 use Prim.Native.Nat.{ℕ}
 use lib.Dec.{T}
 use Rattle.rows.specs.Truth.{Integers}
@@ -10,26 +10,20 @@ use Rattle.ledger.specs.Ledger.{Ledger, fresh}
 use Rattle.ledger.specs.Legal.{Legal}
 use Rattle.ledger.specs.Apply.{pass}
 use Rattle.ledger.specs.Bytes.{applyBytes}
-use Rattle.ledger.specs.Run.{fedAll, AllAccepted, refuted}
+use Rattle.ledger.specs.Run.{fedAll, refuted}
 use Rattle.ledger.specs.Run as ledger
 use Rattle.ledger.specs.Truth.{premisesTrue}
-use Rattle.ledger.specs.History.{afterBy, AcceptedBy, afterBytes, AcceptedBytes, bytesInForce}
+use Rattle.ledger.specs.History.{afterBy, afterBytes, AcceptedBytes, bytesInForce}
 use Rattle.ledger.proofs.InForce.{bytes-in-force}
 use Rattle.ledger.proofs.LegalLaws.{legal-fresh, legal-after-bytes}
 use Rattle.ledger.proofs.LinesTrue.{refuted-by-bytes}
-use Rattle.ledger.proofs.RunLaws.{fed-is-history}
+use Rattle.ledger.proofs.RunLaws.{fed-is-history, accepted-back}
 use Rattle.session.specs.Cells.{Tables, named, excess, ledgerOf}
 use Rattle.session.specs.Calls.{entry, started, start, stands, standing}
 use Rattle.checker.specs.Feed.{feed}
 use Rattle.checker.proofs.Beside.{laid-held, excess-beside, entry-beside}
 use Rattle.demands.specs.History.{Call, fed, State, begun, calledAll, recordsFed, history, stillInForce, EachAccepted}
 use Rattle.demands.proofs.OnLedger.{laid, start-laid, feed-laid, ledger-read, all-laid, fed-laid, accepted-laid}
-
--- a history that was accepted, fed from its first record on
-accepted-back : (n : ℕ) (h bs : List (List ℕ)) → AcceptedBytes n (reverseAux bs h) → AllAccepted n (afterBytes n h) bs × AcceptedBytes n h
-unfolding AllAccepted AcceptedBy afterBy
-accepted-back n h [] a = (tt, a)
-accepted-back n h (b ∷ bs) a = let (rest, (first, before)) = accepted-back n (b ∷ h) bs a in ((first, rest), before)
 
 stands-same : {a b : ledger.Standing} → stands a ≡ stands b → a ≡ b
 stands-same e = cc

@@ -3,7 +3,7 @@ use mathlib.Core.Path.{_≡_, sym, ap, ap₂, _∙_}
 use Prim.Native.Nat.{ℕ, suc, _+_, _*_, _/_, _%_}
 use native.Mathlib.Nat.{mod-zero, div-add-mod', mul-mod-right}
 use native.Mathlib.Omega.{arith}
-use lib.Dec.{T, eqb, eqb→eq, eqb·suc-zero}
+use lib.Dec.{T, eqb→eq, eqb·suc-zero}
 use lib.IntN.{ℤ, pos, negsuc, negℤ, natAbs, _+ℤ_, _*ℤ_, *ℤ-zero}
 use Rattle.ints.specs.Tests.{eqZ, divides}
 use Rattle.ints.proofs.Ring.{mul-add, mul-assoc, mul-neg, neg-mul}

@@ -1,7 +1,7 @@
 -- A test of every element of a list, or of any: what it says of each, how a loop makes it one element at a time, and over a list that is
 -- joined, cut or mapped.
 use mathlib.Core.Path.{_≡_, refl, sym}
-use mathlib.Core.Bool.{Bool, true, false, not, _&&_, _||_, and-assoc}
+use mathlib.Core.Bool.{Bool, true, false, not, _&&_, _||_, and-assoc, and-false}
 use mathlib.Core.List.{List, [], _∷_, _++_, map}
 use mathlib.Core.Logic.{_⊎_, inl, inr}
 use Prim.Native.Nat.{ℕ, zero, suc, _+_, _≤_, _<_}
@@ -74,3 +74,13 @@ module _ {A B : Type 0} (p : B → Bool) (f : A → B) where
   pub any-map : (xs : List A) → any p (map f xs) ≡ any (λ x. p (f x)) xs
   any-map [] = refl
   any-map (x ∷ xs) = rw (any-map xs)
+
+pub all-and : {A : Type 0} (p q : A → Bool) (xs : List A) → all p xs && all q xs ≡ all (λ x. p x && q x) xs
+all-and p q [] = refl
+all-and p q (x ∷ xs) = go (p x) (q x) (all-and p q xs)
+  where
+    go : (a b : Bool) → all p xs && all q xs ≡ all (λ x. p x && q x) xs
+        → (a && all p xs) && (b && all q xs) ≡ (a && b) && all (λ x. p x && q x) xs
+    go true true e = e
+    go true false e = and-false (all p xs)
+    go false b e = refl

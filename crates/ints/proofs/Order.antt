@@ -1,6 +1,6 @@
 -- The order of the whole numbers, and the tests that compute it.
 use mathlib.Core.Path.{_≡_, refl, ap}
-use mathlib.Core.Bool.{Bool, true, false, not}
+use mathlib.Core.Bool.{true, false}
 use mathlib.Core.List.{List, [], _∷_}
 use mathlib.Core.Logic.{_⊎_, inl, inr}
 use Prim.Native.Nat.{_+_, _≤_}
@@ -52,17 +52,6 @@ eqZs→eq [] (y ∷ ys) t = absurd t
 eqZs→eq (x ∷ xs) [] t = absurd t
 eqZs→eq (x ∷ xs) (y ∷ ys) t =
     let h = T-and (eqZ x y) (eqZs xs ys) t in rw (eqZ→eq x y (h .0), eqZs→eq xs ys (h .1))
-
-pub leZ-no : {a b : ℤ} → T (not (leZ a b)) → b <ℤ a
-leZ-no {a} {b} t = go (total a b)
-  where
-    go : (a ≤ℤ b) ⊎ (b <ℤ a) → b <ℤ a
-    go (inl h) = absurd (refute (leZ a b) t (h .le))
-      where
-        refute : (x : Bool) → T (not x) → T x → ⊥
-        refute true n y = n
-        refute false n y = y
-    go (inr h) = h
 
 pub lt→not-le : (a b : ℤ) → ltZ a b ≡ true → leZ b a ≡ false
 lt→not-le a b e =

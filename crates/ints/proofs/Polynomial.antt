@@ -5,7 +5,7 @@ use Prim.Native.Nat.{ℕ, _+_, _*_, _≤_, _<_}
 use native.Mathlib.Omega.{arith}
 use lib.IntN.{ℤ, negℤ, _+ℤ_, _-ℤ_, _*ℤ_}
 use lib.Signed.{_≤ℤ_, _<ℤ_}
-use Rattle.ints.proofs.Parts.{up, down, add-parts, up-neg, down-neg, up-mul, down-mul, eq→parts, parts→eq, le→parts, parts→le, lt→parts, parts→lt}
+use Rattle.ints.proofs.Parts.{up, down, add-parts, up-neg, down-neg, up-mul, down-mul, parts→eq, le→parts, lt→parts}
 
 infixl 6 _⊕_ _⊝_
 infixl 7 _⊗_
@@ -46,16 +46,7 @@ parts-are (a ⊗ b) =
 pub eq-by : (e f : Exp) → parts e .0 + parts f .1 ≡ parts f .0 + parts e .1 → eval e ≡ eval f
 eq-by e f h = parts→eq _ _ (omega (arith, parts-are e, parts-are f))
 
-pub le-by : (e f : Exp) → parts e .0 + parts f .1 ≤ parts f .0 + parts e .1 → eval e ≤ℤ eval f
-le-by e f h = parts→le (omega (arith, parts-are e, parts-are f))
-
-pub lt-by : (e f : Exp) → parts e .0 + parts f .1 < parts f .0 + parts e .1 → eval e <ℤ eval f
-lt-by e f h = parts→lt (omega (arith, parts-are e, parts-are f))
-
 -- what a hypothesis on ℤ says of naturals
-
-pub eq-of : (e f : Exp) → eval e ≡ eval f → parts e .0 + parts f .1 ≡ parts f .0 + parts e .1
-eq-of e f h = omega (arith, parts-are e, parts-are f, eq→parts _ _ h)
 
 pub le-of : (e f : Exp) → eval e ≤ℤ eval f → parts e .0 + parts f .1 ≤ parts f .0 + parts e .1
 le-of e f h = omega (arith, parts-are e, parts-are f, le→parts h)

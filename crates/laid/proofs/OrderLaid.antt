@@ -77,7 +77,7 @@ module _ (n : ℕ) (s : Session) (t : Tables) (e : Exact n s t) (p : Passed (ord
         | no r ↦ (let q : a ≡ suc b = omega arith in rw q (omega arith))
       ]
 
-  in-pool : (i : ℕ) → i ≤ s .lines → ends i ≤ length (t .pool)
+  pub in-pool : (i : ℕ) → i ≤ s .lines → ends i ≤ length (t .pool)
   in-pool i h = omega (arith, ends-rise i (s .lines) h (omega arith), c .last, c .few-literals, e .pool)
 
   length-literals : (i : ℕ) → i < s .lines → length (literalsAt (t .pool) (t .lines) i) ≡ ends (suc i) - ends i

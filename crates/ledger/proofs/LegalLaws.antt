@@ -21,7 +21,7 @@ use Rattle.ledger.specs.Record.{Rule, FM, PM, RS, FK, TO, TR, EQ, TI, WK
 use Rattle.ledger.specs.Checks.{countIn, formsOf, makes, tests, room, checks, Passed}
 use Rattle.ledger.specs.Apply.{Outcome, done, apply}
 use Rattle.ledger.specs.Bytes.{shape, decode, applyBytes}
-use Rattle.ledger.specs.History.{afterBy, after, afterBytes}
+use Rattle.ledger.specs.History.{afterBy, afterBytes}
 use Rattle.ledger.specs.Legal.{lineBelow, LegalLine, Legal}
 use Rattle.ledger.proofs.Findings.{passed-front, passed-back, judged-keeps}
 use Rattle.ledger.proofs.Withdrawal.{marked-add, marked-done}
@@ -216,9 +216,6 @@ module _ {A : Type 0} (n : ℕ) (does : Ledger → A → Outcome) (keeps : (l : 
   unfolding afterBy
   legal-afterBy [] = legal-fresh n
   legal-afterBy (x ∷ h) = keeps (afterBy does h) x (legal-afterBy h)
-
-pub legal-after : (n : ℕ) (h : List Record) → Legal n (after n h)
-legal-after n = legal-afterBy n (apply n) (legal-apply n)
 
 pub legal-after-bytes : (n : ℕ) (h : List (List ℕ)) → Legal n (afterBytes n h)
 legal-after-bytes n = legal-afterBy n (applyBytes n) (legal-applyBytes n)

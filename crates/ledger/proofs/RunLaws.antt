@@ -273,11 +273,8 @@ pub fed-is-history : (n : ℕ) (bs : List (List ℕ)) → fedAll n fresh bs ≡ 
 unfolding afterBy
 fed-is-history n bs = fed-after n [] bs
 
-accepted-after : (n : ℕ) (h bs : List (List ℕ)) → AcceptedBytes n h → AllAccepted n (afterBytes n h) bs → AcceptedBytes n (reverseAux bs h)
-unfolding AllAccepted AcceptedBy
-accepted-after n h [] a t = a
-accepted-after n h (b ∷ bs) a t = accepted-after n (b ∷ h) bs (t .0, a) (t .1)
-
-pub accepted-is-history : (n : ℕ) (bs : List (List ℕ)) → AllAccepted n fresh bs → AcceptedBytes n (reverse bs)
-unfolding AcceptedBy
-accepted-is-history n bs t = accepted-after n [] bs tt t
+-- a history that was accepted, fed from its first record on
+pub accepted-back : (n : ℕ) (h bs : List (List ℕ)) → AcceptedBytes n (reverseAux bs h) → AllAccepted n (afterBytes n h) bs × AcceptedBytes n h
+unfolding AllAccepted AcceptedBy afterBy
+accepted-back n h [] a = (tt, a)
+accepted-back n h (b ∷ bs) a = let (rest, (first, before)) = accepted-back n (b ∷ h) bs a in ((first, rest), before)

@@ -72,9 +72,6 @@ module _ (n : ℕ) (t : List ℤ) where
         let (f, p) = T-and (leb (length ps) mostTerms) _ h in
         record { few = leb→le (length ps) mostTerms f; paired = eqb→eq (length ps) (length ms) p; summands = s }
 
-    pub →summable : Summable n t ps ms → summable n t ps ms ≡ true
-    →summable s = summable-is (s .few) (s .paired) ∙ T→true (all (summand n t) (terms ps ms)) (s .summands)
-
     pub not-summable : (Summable n t ps ms → ⊥) → summable n t ps ms ≡ false
     not-summable f = T→false (summable n t ps ms) (λ s. f (summable→ (T→true (summable n t ps ms) s)))
 

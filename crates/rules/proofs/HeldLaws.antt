@@ -1,6 +1,6 @@
 -- What a judging function knows of tables that are in order: the forms and lines that it reads are those of the ledger.
 use mathlib.Core.Path.{_≡_, ap}
-use Prim.Native.Nat.{ℕ, zero, suc, _+_, _-_, _≤_, _<_}
+use Prim.Native.Nat.{ℕ, suc, _+_, _-_, _≤_, _<_}
 use native.Mathlib.Nat.{mul-le-mul-left}
 use native.Mathlib.Omega.{arith}
 use lib.Dec.{T}
@@ -17,7 +17,7 @@ use Rattle.session.specs.Cells.{Tables, endBefore, literalsAt, lineAt, ledgerOf
 use Rattle.session.proofs.Clauses.{Clauses, clauses}
 use Rattle.laid.proofs.ByIndex.{length-upTo, getD-upTo}
 use Rattle.laid.proofs.Sizes.{Exact}
-use Rattle.laid.proofs.OrderLaid.{legal-back}
+use Rattle.laid.proofs.OrderLaid.{in-pool, legal-back}
 use Rattle.rules.specs.Read.{Held}
 
 -- what a rule's tests find on the ledger that is read
@@ -68,13 +68,8 @@ module _ {n : ℕ} {s : Session} {t : Tables} (h : Held n s t) where
   pub line-rises : (i : ℕ) → i < s .lines → endBefore (t .lines) i ≤ endBefore (t .lines) (suc i)
   line-rises i k = held-clauses .rise i k
 
-  -- k lines on is the last line's end
-  ends-below : (k i : ℕ) → i + k ≡ s .lines → endBefore (t .lines) i ≤ s .literals
-  ends-below zero i e = let q : i ≡ s .lines = omega arith in rw (q, held-clauses .last) (omega arith)
-  ends-below (suc k) i e = omega (arith, line-rises i (omega arith), ends-below k (suc i) (omega arith))
-
   pub line-inside : (i : ℕ) → i < s .lines → endBefore (t .lines) (suc i) ≤ length (t .pool)
-  line-inside i k = omega (arith, ends-below (s .lines - suc i) (suc i) (omega arith), held-clauses .few-literals, h .pool-size)
+  line-inside i k = in-pool n s t held-exact (h .ordered) (suc i) k
 
   pub line-few : (i : ℕ) → i < s .lines → length (literalsAt (t .pool) (t .lines) i) ≤ longestLine
   line-few i k = simp length-take (omega (arith, line-short i k))

@@ -28,16 +28,6 @@ first-divisor fs [] ms h e = absurd (omega arith)
 first-divisor fs (f ∷ ps) [] h e = absurd (omega arith)
 first-divisor fs (f ∷ ps) (m ∷ ms) h e = refl
 
-pub all-and : {A : Type 0} (p q : A → Bool) (xs : List A) → all p xs && all q xs ≡ all (λ x. p x && q x) xs
-all-and p q [] = refl
-all-and p q (x ∷ xs) = go (p x) (q x) (all-and p q xs)
-  where
-    go : (a b : Bool) → all p xs && all q xs ≡ all (λ x. p x && q x) xs
-        → (a && all p xs) && (b && all q xs) ≡ (a && b) && all (λ x. p x && q x) xs
-    go true true e = e
-    go true false e = and-false (all p xs)
-    go false b e = refl
-
 -- two sums, by rows that agree on what passes a test
 module _ (g : Term → Bool) (row row' : ℕ → Row) (agree : (t : Term) → T (g t) → row (t .form) ≡ row' (t .form)) where
   pub sum-agrees : (r : Row) (ts : List Term) → T (all g ts) → summedOnto row r ts ≡ summedOnto row' r ts

@@ -25,7 +25,8 @@ use Rattle.session.specs.declared.state.Session.{Session}
 use Rattle.session.specs.Cells.{Tables, ledgerOf}
 use Rattle.rules.specs.Read.{Held}
 use Rattle.rules.specs.Picks.{Picked, Paired, allowed}
-use Rattle.rules.proofs.TermParts.{forms-terms, first-divisor, all-and, sum-agrees, at-most-or-zero, divided, legal-small, legal-numbers}
+use Rattle.ints.proofs.Lists.{all-and}
+use Rattle.rules.proofs.TermParts.{forms-terms, first-divisor, sum-agrees, at-most-or-zero, divided, legal-small, legal-numbers}
 use Rattle.rules.proofs.FormTests.{count-in}
 use Rattle.rules.proofs.HeldLaws.{Finds, form-count, form-is, form-legal, form-inside}
 

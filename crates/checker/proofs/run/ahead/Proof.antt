@@ -1,10 +1,7 @@
 -- `checker::run::ahead` meets its contract.
-use mathlib.Core.Path.{_≡_, sym, ap, ap₂, _∙_}
-use Rattle.ledger.specs.Apply.{Finding, pass, finding}
-use Rattle.ledger.specs.Bytes as bytes
+use mathlib.Core.Path.{sym, ap, _∙_}
 use Rattle.session.specs.Answers.{findingOf}
 use Rattle.records.specs.Marks.{bearingOf}
-use Rattle.checker.specs.Run.{wayBy, wayBorne}
 use borrow.Author.Needs.{needs}
 use Rattle.checker.proofs.run.ahead.Statement.{statement}
 use Rattle.checker.proofs.run.ahead.Tie as tie

@@ -136,6 +136,14 @@ module _ (n : ℕ) where
         let answers = apart answerOf answer answer-known (ap (λ (x : Result). x .answer) same) in
         (λ i. record { session = same i .session; answer = answers i }, ap (λ (x : Result). x .tables) same)
 
+    -- the lent call, whose session is the one that it altered
+    pub lent-determined : (b : List ℕ) (a a' : Answer) (q q' : Session) (t t' : Tables)
+        → record { answer = answerOf a; session = q; tables = t } ≡ feed n s u b → record { answer = answerOf a'; session = q'; tables = t' } ≡ feed n s u b
+        → (a ≡ a') × (q ≡ q') × (t ≡ t')
+    lent-determined b a a' q q' t t' e e' =
+        let (same, cells) = feed-determined b (record { session = q; answer = a }) (record { session = q'; answer = a' }) t t' e e' in
+        (ap (λ (r : Fed). r .answer) same, ap (λ (r : Fed). r .session) same, cells)
+
     pub run-determined : (b : List ℕ) (r r' : Ran) (t t' : Tables) → totalsOf r t ≡ run n s u b → totalsOf r' t' ≡ run n s u b
         → (r ≡ r') × (t ≡ t')
     run-determined b r r' t t' e e' =

@@ -1,0 +1,48 @@
+// Feed with the session lent to it and altered there, over the call that takes the session by value; and a call from a value, which lends it.
+ghost use mathlib.Core.Path.{_≡_};
+ghost use Rattle.rows.specs.Limits.{unknowns};
+ghost use Rattle.session.specs.Answers.{answerOf};
+ghost use Rattle.session.specs.Cells.{tables};
+ghost use Rattle.checker.specs.Feed.{feed};
+use session::answers::Answer;
+use session::state::Session;
+
+// The session afterwards, and the answer.
+pub struct Returned {
+    pub session: Session,
+    pub answer: Answer,
+}
+
+// One record, of any bytes, on any session and any tables.
+pub fn feed_lent(
+    session: &mut Session,
+    forms: &mut [i32],
+    pool: &mut [u16],
+    lines: &mut [u16],
+    bytes: &[u8],
+) -> Answer
+    ensures { λ r. ⌜ record { answer = answerOf r; session = now (session .exit); tables = tables (now (forms .exit)) (now (pool .exit)) (now (lines .exit)) }
+        ≡ feed unknowns (now (session .entry)) (tables (now (forms .entry)) (now (pool .entry)) (now (lines .entry))) (now (bytes .entry)) ⌝ }
+{
+    let before = *session;
+    let fed = checker::feed::feed(before, forms, pool, lines, bytes);
+    let after = fed.session;
+    *session = after;
+    fed.answer
+}
+
+// The same from a session by value, which is lent and comes back: whoever calls this has no reference to a session.
+pub fn feed_by_lending(
+    s: Session,
+    forms: &mut [i32],
+    pool: &mut [u16],
+    lines: &mut [u16],
+    bytes: &[u8],
+) -> Returned
+    ensures { λ r. ⌜ record { answer = answerOf (r .answer); session = r .session; tables = tables (now (forms .exit)) (now (pool .exit)) (now (lines .exit)) }
+        ≡ feed unknowns s (tables (now (forms .entry)) (now (pool .entry)) (now (lines .entry))) (now (bytes .entry)) ⌝ }
+{
+    let mut session = s;
+    let answer = feed_lent(&mut session, forms, pool, lines, bytes);
+    Returned { session, answer }
+}

@@ -9,20 +9,20 @@ use native.Mathlib.Nat.{add-assoc, add-zero}
 use native.Mathlib.Decide.{decLt}
 use native.Mathlib.Omega.{arith}
 use borrow.Author.Tests.{eq-eqb, lt-leb, le-leb}
-use lib.Dec.{T, leb, leb→le, lit≤}
+use lib.Dec.{leb, leb→le, lit≤}
 use lib.ListN.{length, take, drop, length-append, length-drop, List·getD-append}
 use lib.Seq.{length-take-le, take-all, take-append-le, drop-append-le, drop-drop, getD-take}
 use Rattle.ints.specs.Tests.{all}
 use Rattle.ints.proofs.Bools.{never, true→T, T-and}
 use Rattle.rows.specs.Limits.{mostTerms}
 use Rattle.ledger.specs.Ledger.{Ledger}
-use Rattle.ledger.specs.Record.{Record, make, OP, WD, FM, PM, RS, FK, TO, TR, EQ, TI, WK, CL, Made, Answer, accepted, refused}
+use Rattle.ledger.specs.Record.{Record, Made, Answer, accepted, refused}
 use Rattle.ledger.specs.Record.{RecordMark, fm, pm, rs, fk, to, tr, eq, ti, wk, cl, op, wd, layout}
-use Rattle.ledger.specs.Checks.{Check, countIn, checks}
+use Rattle.ledger.specs.Checks.{countIn, checks}
 use Rattle.ledger.specs.Apply.{Finding, pass, fail, finding, Outcome, judged, done, made, apply}
 use Rattle.ledger.specs.Bytes.{byteAt, Bearing, unknown, bears, markOf, bytesFor, shape, decode, applyBytes}
 use Rattle.ledger.specs.Run.{frontBytes, front, split, recordsOf, Run, runFrom, run}
-use Rattle.ledger.proofs.RunLaws.{front-positive, records-step, run-on, run-stops}
+use Rattle.ledger.proofs.RunLaws.{front-positive, records-step, finding-from, checks-numbered, run-on, run-stops}
 use Rattle.records.specs.Marks.{Misshapen}
 use Rattle.records.proofs.LayoutLaws.{two-letters}
 use Rattle.records.proofs.FrontLaws.{too-few, none-known, fewer}
@@ -227,35 +227,6 @@ module _ (n : ℕ) (l : Ledger) where
 
 -- ---- only the shape refuses with 3
 
-beyondThree : List Check → Bool
-beyondThree cs = all (λ c. leb 4 (c .number)) cs
-
-checks-beyond : (n : ℕ) (l : Ledger) (r : Record) → T (beyondThree (checks n l r))
-unfolding beyondThree checks
-checks-beyond n l (make (FM f)) = tt
-checks-beyond n l (make (PM xs)) = tt
-checks-beyond n l (make (RS p i j)) = tt
-checks-beyond n l (make (FK ts)) = tt
-checks-beyond n l (make (TO a b)) = tt
-checks-beyond n l (make (TR z u v)) = tt
-checks-beyond n l (make (EQ z a)) = tt
-checks-beyond n l (make (TI a b c)) = tt
-checks-beyond n l (make (WK z g)) = tt
-checks-beyond n l (make (CL ts)) = tt
-checks-beyond n l OP = tt
-checks-beyond n l WD = tt
-
-finding-beyond : (cs : List Check) → T (beyondThree cs) → finding cs ≡ fail 3 → ⊥
-unfolding beyondThree finding
-finding-beyond [] t e = let z : _≡_ {A = ℕ} 0 1 = cc in omega arith
-finding-beyond (c ∷ cs) t e =
-    let u = T-and (leb 4 (c .number)) (beyondThree cs) t in
-    go (c .passes) e (leb→le 4 (c .number) (u .0)) (finding-beyond cs (u .1))
-  where
-    go : (p : Bool) → cond p (finding cs) (fail (c .number)) ≡ fail 3 → 4 ≤ c .number → (finding cs ≡ fail 3 → ⊥) → ⊥
-    go true e h rest = rest e
-    go false e h rest = let s : c .number ≡ 3 = cc in omega arith
-
 apply-beyond : (n : ℕ) (l : Ledger) (r : Record) → apply n l r .answer ≡ refused 3 → ⊥
 unfolding apply
 apply-beyond n l r = go (finding (checks n l r)) refl
@@ -265,7 +236,10 @@ apply-beyond n l r = go (finding (checks n l r)) refl
 
     go : (f : Finding) → finding (checks n l r) ≡ f → judged f l o .answer ≡ refused 3 → ⊥
     go pass g e = let z : _≡_ {A = ℕ} 0 1 = cc in omega arith
-    go (fail k) g e = finding-beyond (checks n l r) (checks-beyond n l r) (cc)
+    go (fail k) g e =
+        let f : finding (checks n l r) ≡ fail 3 = cc in
+        let h = finding-from 4 (checks n l r) (checks-numbered n l r) f in
+        omega arith
 
 module _ (n : ℕ) (l : Ledger) where
   three-is-short : (b : List ℕ) → applyBytes n l (frontRecord b) .answer ≡ refused 3 → length b < longest

@@ -10,7 +10,7 @@ use lib.Dec.{T, leb, leb→le, lit≤}
 use lib.ListN.{length, take, drop, getD, length-append, length-drop, take-append-drop}
 use lib.Seq.{take-all}
 use Rattle.ints.specs.Tests.{all}
-use Rattle.ints.proofs.Bools.{T-and}
+use Rattle.ints.proofs.Bools.{never, T-and}
 use Rattle.ledger.specs.Ledger.{Ledger, fresh}
 use Rattle.ledger.specs.Record.{Record, make, OP, WD, FM, PM, RS, FK, TO, TR, EQ, TI, WK, CL, Made, Answer, accepted, refused, isAccepted}
 use Rattle.ledger.specs.Record.{RecordMark, fm, pm, rs, fk, to, tr, eq, ti, wk, cl, op, wd, layout}
@@ -94,18 +94,32 @@ records-step x b = ap (λ r. frontRecord (x ∷ b) ∷ r) (fuel-enough (length b
 
 -- ---- no refusal has the number 0
 
-numbered : List Check → Bool
-numbered cs = all (λ c. leb 1 (c .number)) cs
+-- the tests have no number below k
+pub numbered : ℕ → List Check → Bool
+numbered k cs = all (λ c. leb k (c .number)) cs
 
-shape-numbered : (b : List ℕ) → T (numbered (shape b))
+-- a list of tests refuses with none but its numbers
+pub finding-from : (k : ℕ) (cs : List Check) {j : ℕ} → T (numbered k cs) → finding cs ≡ fail j → k ≤ j
+unfolding numbered finding
+finding-from k [] t e = never (cc)
+finding-from k (c ∷ cs) {j} t e =
+    let u = T-and (leb k (c .number)) (numbered k cs) t in
+    go (c .passes) e (leb→le k (c .number) (u .0)) (finding-from k cs (u .1))
+  where
+    go : (p : Bool) → cond p (finding cs) (fail (c .number)) ≡ fail j → k ≤ c .number → (finding cs ≡ fail j → k ≤ j) → k ≤ j
+    go true e h rest = rest e
+    go false e h rest = let s : c .number ≡ j = cc in omega arith
+
+shape-numbered : (b : List ℕ) → T (numbered 1 (shape b))
 unfolding numbered shape
 shape-numbered b = go (markOf b)
   where
-    go : (m : Bearing) → T (numbered (shapeOf b m))
+    go : (m : Bearing) → T (numbered 1 (shapeOf b m))
     go unknown = tt
     go (bears m) = tt
 
-checks-numbered : (n : ℕ) (l : Ledger) (r : Record) → T (numbered (checks n l r))
+-- 3 and below belong to the sizes, the order and the shape
+pub checks-numbered : (n : ℕ) (l : Ledger) (r : Record) → T (numbered 4 (checks n l r))
 unfolding numbered checks
 checks-numbered n l (make (FM f)) = tt
 checks-numbered n l (make (PM xs)) = tt
@@ -120,30 +134,19 @@ checks-numbered n l (make (CL ts)) = tt
 checks-numbered n l OP = tt
 checks-numbered n l WD = tt
 
-finding-positive : (cs : List Check) {k : ℕ} → T (numbered cs) → finding cs ≡ fail k → 0 < k
-unfolding numbered finding
-finding-positive [] t e = let z : _≡_ {A = ℕ} 0 1 = cc in omega arith
-finding-positive (c ∷ cs) {k} t e =
-    let u = T-and (leb 1 (c .number)) (numbered cs) t in
-    go (c .passes) e (leb→le 1 (c .number) (u .0)) (finding-positive cs (u .1))
+judged-positive : (k : ℕ) (cs : List Check) (l : Ledger) (o : Outcome) {j : ℕ}
+    → T (numbered (suc k) cs) → (o .answer ≡ refused j → 0 < j) → judged (finding cs) l o .answer ≡ refused j → 0 < j
+judged-positive k cs l o {j} t f = go (finding cs) refl
   where
-    go : (p : Bool) → cond p (finding cs) (fail (c .number)) ≡ fail k → 0 < c .number → (finding cs ≡ fail k → 0 < k) → 0 < k
-    go true e h rest = rest e
-    go false e h rest = let s : c .number ≡ k = cc in omega arith
-
-judged-positive : (cs : List Check) (l : Ledger) (o : Outcome) {k : ℕ}
-    → T (numbered cs) → (o .answer ≡ refused k → 0 < k) → judged (finding cs) l o .answer ≡ refused k → 0 < k
-judged-positive cs l o {k} t f = go (finding cs) refl
-  where
-    go : (d : Finding) → finding cs ≡ d → judged d l o .answer ≡ refused k → 0 < k
+    go : (d : Finding) → finding cs ≡ d → judged d l o .answer ≡ refused j → 0 < j
     go pass h e = f e
-    go (fail j) h e = finding-positive cs t (cc)
+    go (fail i) h e = let g : finding cs ≡ fail j = cc in omega (arith, finding-from (suc k) cs t g)
 
 pub never-zero : (n : ℕ) (l : Ledger) (b : List ℕ) {k : ℕ} → applyBytes n l b .answer ≡ refused k → 0 < k
 unfolding applyBytes
 never-zero n l b =
-    judged-positive (shape b) l (apply n l r) (shape-numbered b)
-    (judged-positive (checks n l r) l o (checks-numbered n l r) made-none)
+    judged-positive 0 (shape b) l (apply n l r) (shape-numbered b)
+    (judged-positive 3 (checks n l r) l o (checks-numbered n l r) made-none)
   where
     r : Record
     r = decode b

@@ -1,0 +1,165 @@
+// Prints: what a call answered, the session, and a sum over each table.
+ghost use Rattle.drive.specs.Inside.{Inside};
+use crate::tables::State;
+use libc::STDERR_FILENO;
+use libc::STDOUT_FILENO;
+use session::answers::Answer;
+use session::answers::Made;
+use session::answers::Refusal;
+use session::answers::Standing;
+use session::answers::Start;
+use session::answers::Verdict;
+use session::state::Mark;
+use session::state::Session;
+
+pub fn print(text: &[u8]) {
+    io::write_all(STDOUT_FILENO, text);
+}
+
+pub fn print_bad() {
+    print(b"bad command\n");
+}
+
+pub fn print_unread() {
+    io::write_all(STDERR_FILENO, b"standard input cannot be read\n");
+}
+
+// A number after a blank.
+fn print_number(n: u64) {
+    print(b" ");
+    io::print_decimal(STDOUT_FILENO, n);
+}
+
+fn print_count(n: u16) {
+    print_number(n as u64);
+}
+
+// A word and a number, as a line.
+fn print_numbered(word: &[u8], n: u16) {
+    print(word);
+    print_count(n);
+    print(b"\n");
+}
+
+fn print_refused(why: Refusal) {
+    print_numbered(b"refused", session::answers::number(why));
+}
+
+pub fn print_answer(answer: Answer) {
+    match answer {
+        Answer::Accepted(made) => match made {
+            Made::Form(n) => print_numbered(b"form", n),
+            Made::Line(n) => print_numbered(b"line", n),
+            Made::Level(n) => print_numbered(b"level", n),
+        },
+        Answer::Refused(why) => print_refused(why),
+    }
+}
+
+pub fn print_start(start: Start) {
+    match start {
+        Start::Started => print(b"started\n"),
+        Start::Refused(why) => print_refused(why),
+    }
+}
+
+pub fn print_standing(standing: Standing) {
+    match standing {
+        Standing::Refuted(n) => print_numbered(b"refuted", n),
+        Standing::NotRefuted => print(b"not refuted\n"),
+        Standing::Refused(why) => print_refused(why),
+    }
+}
+
+// The stopping number, 0 where all records were accepted.
+fn stop_of(stop: Verdict) -> u16 {
+    match stop {
+        Verdict::Pass => 0,
+        Verdict::Fail(why) => session::answers::number(why),
+    }
+}
+
+pub fn print_run(records: usize, bytes: usize, stop: Verdict) {
+    print(b"run");
+    print_number(records as u64);
+    print_number(bytes as u64);
+    print_count(stop_of(stop));
+    print(b"\n");
+}
+
+fn print_mark(mark: Mark) {
+    print_count(mark.forms);
+    print_count(mark.lines);
+    print_count(mark.literals);
+}
+
+fn print_marks(marks: [Mark; Session::MOST_LEVELS]) {
+    let mut i: usize = 0;
+    while i < Session::MOST_LEVELS {
+        print_mark(marks[i]);
+        i += 1;
+    }
+}
+
+// The counts, and then every mark.
+fn print_session(session: Session) {
+    print(b"session");
+    print_mark(session.counts());
+    print_count(session.open);
+    let marks = session.marks;
+    print_marks(marks);
+    print(b"\n");
+}
+
+// 2^32.
+const MODULUS: u64 = 4_294_967_296;
+
+// The sum after one cell more.
+fn summed(sum: u64, cell: u64) -> u64 {
+    (sum % MODULUS * 31 + cell % MODULUS) % MODULUS
+}
+
+fn wide(cell: u16) -> u64 {
+    cell as u64
+}
+
+// A cell with 2^32 added, which is not negative and the same modulo 2^32.
+fn lifted(cell: i32) -> u64 {
+    (cell as i64 + 4_294_967_296) as u64
+}
+
+fn sum_of_forms(cells: &[i32]) -> u64 {
+    let mut sum: u64 = 0;
+    let mut i: usize = 0;
+    while i < cells.len() {
+        sum = summed(sum, lifted(cells[i]));
+        i += 1;
+    }
+    sum
+}
+
+fn sum_of_numbers(cells: &[u16]) -> u64 {
+    let mut sum: u64 = 0;
+    let mut i: usize = 0;
+    while i < cells.len() {
+        sum = summed(sum, wide(cells[i]));
+        i += 1;
+    }
+    sum
+}
+
+// The two lines after each answer.
+pub fn print_state(s: State, forms: &[i32], pool: &[u16], lines: &[u16])
+    requires { ⌜ Inside s (now forms) (now pool) (now lines) ⌝ }
+{
+    let session = s.session;
+    let f = s.forms;
+    let p = s.pool;
+    let l = s.lines;
+    print_session(session);
+    print(b"cells");
+    print_number(sum_of_forms(&forms[0..f]));
+    print_number(sum_of_numbers(&pool[0..p]));
+    print_number(sum_of_numbers(&lines[0..l]));
+    print(b"\n");
+}

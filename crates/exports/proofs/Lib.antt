@@ -1,0 +1,3 @@
+mod MarksCross
+mod CallsCross
+pub mod RoundTrip

@@ -1,16 +1,16 @@
--- `damage::pool_of` is safe and ends.
+-- `damage::limits::pool_of` is safe and ends.
 use mathlib.Core.Path.{_≡_}
 use Prim.Native.Nat.{_≤_, _-_}
 use lib.ListN.{length}
 use borrow.Author.Needs.{needs}
-use Rattle.damage.proofs.pool_of.Statement.{statement}
-use Rattle.damage.proofs.pool_of.Tie as tie
+use Rattle.damage.proofs.limits.pool_of.Statement.{statement}
+use Rattle.damage.proofs.limits.pool_of.Tie as tie
 
 abbrev Inv-loop : tie.InvT-loop
-Inv-loop count each pool₀ literal₀ i₀ pool literal i = (i ≤ 4096) × (length pool ≡ 4096)
+Inv-loop count pool₀ i₀ pool i = (i ≤ 4096) × (length pool ≡ 4096)
 
 abbrev μ-loop : tie.MeasureT-loop
-μ-loop count each pool₀ literal₀ i₀ pool literal i = 4096 - i
+μ-loop count pool₀ i₀ pool i = 4096 - i
 
 loop-holds : tie.Need-loop-holds Inv-loop μ-loop
 loop-holds c = search needs
@@ -18,14 +18,14 @@ loop-holds c = search needs
 returns : tie.Need-returns Inv-loop μ-loop
 returns c = search needs
 
+cast-pool : tie.Need-cast-pool Inv-loop μ-loop
+cast-pool c = search needs
+
 mul-pool : tie.Need-mul-pool Inv-loop μ-loop
 mul-pool c = search needs
 
 array-write-pool : tie.Need-array-write-pool Inv-loop μ-loop
 array-write-pool c = search needs
-
-add-literal : tie.Need-add-literal Inv-loop μ-loop
-add-literal c = search needs
 
 add-i : tie.Need-add-i Inv-loop μ-loop
 add-i c = search needs
@@ -35,15 +35,6 @@ loop-less c = search needs
 
 loop-again : tie.Need-loop-again Inv-loop μ-loop
 loop-again c = search needs
-
-add-i-2 : tie.Need-add-i-2 Inv-loop μ-loop
-add-i-2 c = search needs
-
-loop-less-2 : tie.Need-loop-less-2 Inv-loop μ-loop
-loop-less-2 c = search needs
-
-loop-again-2 : tie.Need-loop-again-2 Inv-loop μ-loop
-loop-again-2 c = search needs
 
 returns-2 : tie.Need-returns-2 Inv-loop μ-loop
 returns-2 c = search needs
@@ -56,13 +47,10 @@ pool-of-spec =
     μ-loop
     loop-holds
     returns
+    cast-pool
     mul-pool
     array-write-pool
-    add-literal
     add-i
     loop-less
     loop-again
-    add-i-2
-    loop-less-2
-    loop-again-2
     returns-2)

@@ -1,10 +1,10 @@
--- `damage::lines_of_eight` is safe and ends.
+-- `damage::limits::lines_of_eight` is safe and ends.
 use mathlib.Core.Path.{_≡_}
 use Prim.Native.Nat.{_≤_, _-_}
 use lib.ListN.{length}
 use borrow.Author.Needs.{needs}
-use Rattle.damage.proofs.lines_of_eight.Statement.{statement}
-use Rattle.damage.proofs.lines_of_eight.Tie as tie
+use Rattle.damage.proofs.limits.lines_of_eight.Statement.{statement}
+use Rattle.damage.proofs.limits.lines_of_eight.Tie as tie
 
 abbrev Inv-loop : tie.InvT-loop
 Inv-loop lines₀ i₀ lines i = (i ≤ 512) × (length lines ≡ 1024)

@@ -2,7 +2,6 @@
 // that are short or long. Prints a short label and the answer for each.
 mod cases;
 mod record_text;
-mod say;
 mod tables;
 mod trial;
 

@@ -1,7 +1,7 @@
 // An empty premise on a fresh session and tables that are short or long.
-use crate::say::print;
-use crate::say::print_answer;
-use crate::say::print_numbers;
+use printing::print;
+use printing::print_answer;
+use printing::print_numbers;
 use session::state::Session;
 
 fn on_tables(label: &[u8], forms: &mut [i32], pool: &mut [u16], lines: &mut [u16]) {

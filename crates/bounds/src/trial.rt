@@ -1,7 +1,7 @@
 // A session with its three tables, all by value: a record is tried on a copy, and the copy comes back.
-use crate::say::print;
-use crate::say::print_answer;
-use crate::say::print_numbers;
+use printing::print;
+use printing::print_answer;
+use printing::print_numbers;
 use session::answers::Answer;
 use session::state::Session;
 

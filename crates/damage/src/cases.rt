@@ -10,9 +10,9 @@ use crate::changes::with_counts;
 use crate::changes::with_mark;
 use crate::limits::full;
 use crate::limits::one_line;
-use crate::say::print;
 use crate::trial::Trial;
 use crate::trial::say;
+use printing::print;
 
 // A case as far as it was read: its letter, which is a blank within the label, a bar after it, and a hash within a remark; and the last
 // four numbers.

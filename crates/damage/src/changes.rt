@@ -45,15 +45,19 @@ fn signed(letter: u8, size: u32) -> i32 {
     size as i32
 }
 
-// With a cell of the table that the letter names.
+// With a cell of the table that the letter names, if it has that cell.
 pub fn with_cell(letter: u8, place: usize, size: u32) -> Trial {
     let mut next = healthy();
-    if letter == b'p' && place < Session::POOL {
-        next.pool[place] = low(size);
+    if letter == b'p' {
+        if place < Session::POOL {
+            next.pool[place] = low(size);
+        }
         return next;
     }
-    if letter == b'l' && place < Session::LINE_TABLE {
-        next.lines[place] = low(size);
+    if letter == b'l' {
+        if place < Session::LINE_TABLE {
+            next.lines[place] = low(size);
+        }
         return next;
     }
     if place < Session::FORM_TABLE {

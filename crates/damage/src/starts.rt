@@ -1,8 +1,8 @@
 // Starts on tables that hold only sevens. A start on a table that is one cell short is refused and leaves every cell; on longer tables
 // it clears the named cells and no more.
-use crate::say::print;
 use crate::say::print_last_six;
-use crate::say::print_start;
+use printing::print;
+use printing::print_start;
 
 fn begin(forms: &mut [i32], pool: &mut [u16], lines: &mut [u16]) {
     let begun = session::start::start(forms, pool, lines);

@@ -1,10 +1,10 @@
 // Obeys a command at the front of a text, on the tables that are lent.
 ghost use Prim.Native.Nat.{_+_, _≤_};
 ghost use lib.ListN.{length};
-use crate::say::print_answer;
 use crate::say::print_run;
-use crate::say::print_standing;
-use crate::say::print_start;
+use printing::print_answer;
+use printing::print_standing;
+use printing::print_start;
 use records::numbers::i32_at;
 use records::numbers::u16_at;
 use session::state::Mark;

@@ -1,20 +1,13 @@
-// Prints: what a call answered, the session, and a sum over each table.
+// Prints: what a run came to, the session, and a sum over each table.
 ghost use Rattle.drive.specs.Inside.{Inside};
 use crate::tables::State;
 use libc::STDERR_FILENO;
-use libc::STDOUT_FILENO;
-use session::answers::Answer;
-use session::answers::Made;
-use session::answers::Refusal;
-use session::answers::Standing;
-use session::answers::Start;
+use printing::print;
+use printing::print_number;
+use printing::stop_number;
 use session::answers::Verdict;
 use session::state::Mark;
 use session::state::Session;
-
-pub fn print(text: &[u8]) {
-    io::write_all(STDOUT_FILENO, text);
-}
 
 pub fn print_bad() {
     print(b"bad command\n");
@@ -24,66 +17,15 @@ pub fn print_unread() {
     io::write_all(STDERR_FILENO, b"standard input cannot be read\n");
 }
 
-// A number after a blank.
-fn print_number(n: u64) {
-    print(b" ");
-    io::print_decimal(STDOUT_FILENO, n);
-}
-
 fn print_count(n: u16) {
     print_number(n as u64);
-}
-
-// A word and a number, as a line.
-fn print_numbered(word: &[u8], n: u16) {
-    print(word);
-    print_count(n);
-    print(b"\n");
-}
-
-fn print_refused(why: Refusal) {
-    print_numbered(b"refused", session::answers::number(why));
-}
-
-pub fn print_answer(answer: Answer) {
-    match answer {
-        Answer::Accepted(made) => match made {
-            Made::Form(n) => print_numbered(b"form", n),
-            Made::Line(n) => print_numbered(b"line", n),
-            Made::Level(n) => print_numbered(b"level", n),
-        },
-        Answer::Refused(why) => print_refused(why),
-    }
-}
-
-pub fn print_start(start: Start) {
-    match start {
-        Start::Started => print(b"started\n"),
-        Start::Refused(why) => print_refused(why),
-    }
-}
-
-pub fn print_standing(standing: Standing) {
-    match standing {
-        Standing::Refuted(n) => print_numbered(b"refuted", n),
-        Standing::NotRefuted => print(b"not refuted\n"),
-        Standing::Refused(why) => print_refused(why),
-    }
-}
-
-// The stopping number, 0 where all records were accepted.
-fn stop_of(stop: Verdict) -> u16 {
-    match stop {
-        Verdict::Pass => 0,
-        Verdict::Fail(why) => session::answers::number(why),
-    }
 }
 
 pub fn print_run(records: usize, bytes: usize, stop: Verdict) {
     print(b"run");
     print_number(records as u64);
     print_number(bytes as u64);
-    print_count(stop_of(stop));
+    print_count(stop_number(stop));
     print(b"\n");
 }
 

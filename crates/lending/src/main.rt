@@ -1,10 +1,8 @@
 // Feeds records through the call that lends the session, and prints each answer with the counts of forms, lines, literals and open levels
 // after it; and the first cells of the pool and of the lines in a level and once it is withdrawn.
-mod say;
-
-use crate::say::print;
-use crate::say::print_answer;
-use crate::say::print_four;
+use printing::print;
+use printing::print_answer;
+use printing::print_numbers;
 use session::state::Session;
 
 // A session with its tables, all by value.
@@ -35,12 +33,9 @@ fn fed(held: Held, label: &[u8], bytes: &[u8]) -> Held {
     let session = returned.session;
     print(label);
     print_answer(answer);
-    print_four(
-        b", counts",
-        session.forms,
-        session.lines,
-        session.literals,
-        session.open,
+    print_numbers(
+        b"counts",
+        &[session.forms, session.lines, session.literals, session.open],
     );
     Held {
         session: session,
@@ -67,21 +62,21 @@ fn form_record() -> [u8; 57] {
 fn print_cells(held: Held) {
     let pool = held.pool;
     let lines = held.lines;
-    print_four(b"pool", pool[0], pool[1], pool[2], pool[3]);
-    print_four(b"lines", lines[0], lines[1], lines[2], lines[3]);
+    print_numbers(b"pool", &[pool[0], pool[1], pool[2], pool[3]]);
+    print_numbers(b"lines", &[lines[0], lines[1], lines[2], lines[3]]);
 }
 
 fn main() {
     let form = form_record();
-    let a = fed(fresh(), b"FM", &form);
-    let b = fed(a, b"PM", b"PM\x01\x00\x00");
-    let c = fed(b, b"OP", b"OP");
-    let d = fed(c, b"PM", b"PM\x02\x00\x00\x01\x00");
+    let a = fed(fresh(), b"FM ", &form);
+    let b = fed(a, b"PM ", b"PM\x01\x00\x00");
+    let c = fed(b, b"OP ", b"OP");
+    let d = fed(c, b"PM ", b"PM\x02\x00\x00\x01\x00");
     print_cells(d);
     // this one names form 1, which is not in force
-    let e = fed(d, b"PM", b"PM\x01\x02\x00");
-    let f = fed(e, b"WD", b"WD");
+    let e = fed(d, b"PM ", b"PM\x01\x02\x00");
+    let f = fed(e, b"WD ", b"WD");
     print_cells(f);
-    let g = fed(f, b"WD", b"WD");
-    fed(g, b"no bytes", b"");
+    let g = fed(f, b"WD ", b"WD");
+    fed(g, b"no bytes ", b"");
 }

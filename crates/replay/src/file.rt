@@ -119,5 +119,5 @@ pub fn replay(fd: i32, name: &[u8]) {
     }
     let standing = order::standing::standing(progress.session, &forms, &pool, &lines);
     crate::say::totals(progress);
-    crate::say::standing(standing);
+    printing::print_standing(standing);
 }

@@ -23,9 +23,10 @@ use Rattle.session.specs.Calls.{entry}
 use Rattle.laid.specs.Laid.{tablesOf, sessionOf}
 use Rattle.laid.proofs.Sizes.{laid-sizes}
 use Rattle.laid.proofs.LegalLaid.{laid-in-order}
-use Rattle.rules.specs.Read.{Held}
-use Rattle.rules.proofs.HeldLaws.{held-legal}
-use Rattle.checker.specs.Feed.{settled, stepped, beside, feed}
+use Rattle.laid.specs.Held.{Held}
+use Rattle.laid.proofs.HeldLaws.{held-legal}
+use Rattle.settle.specs.Settling.{settled}
+use Rattle.checker.specs.Feed.{stepped, beside, feed}
 
 pub restored : (n : ℕ) (t : Tables) → withExcess (named n t) (excess n t) ≡ t
 restored n t =

@@ -14,9 +14,10 @@ use Rattle.session.specs.Cells.{Tables, named, excess, withExcess}
 use Rattle.session.specs.InOrder.{sizes, order}
 use Rattle.session.specs.Calls.{entry}
 use Rattle.order.proofs.Entry.{entry-long}
-use Rattle.rules.specs.Read.{Held}
+use Rattle.laid.specs.Held.{Held}
 use Rattle.checker.specs.declared.keep.Fed.{Fed}
-use Rattle.checker.specs.Feed.{Result, unchanged, stepped, beside, feed, resultOf}
+use Rattle.settle.specs.Settling.{Result, unchanged}
+use Rattle.checker.specs.Feed.{stepped, beside, feed, resultOf}
 
 module _ (n : ℕ) (s : Session) (t : Tables) where
   pub entry-held : entry n s t ≡ pass → length (s .marks) ≡ mostLevels → Held n s (named n t)

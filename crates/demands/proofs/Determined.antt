@@ -23,9 +23,10 @@ use Rattle.session.specs.Cells.{Tables}
 use Rattle.session.specs.Answers.{numberOf, madeOf, answerOf, findingOf}
 use Rattle.session.specs.Calls.{Started, started, notStarted, Beginning, start, startOf, beginningOf, Stands, stands, noStanding, standing, standsOf}
 use Rattle.checker.specs.declared.keep.Fed.{Fed}
-use Rattle.checker.specs.declared.run.Ran.{Ran}
-use Rattle.checker.specs.Feed.{Result, feed, resultOf}
-use Rattle.checker.specs.Run.{Totals, run, stopNumber, totalsOf}
+use Rattle.stream.specs.declared.Ran.{Ran}
+use Rattle.settle.specs.Settling.{Result}
+use Rattle.checker.specs.Feed.{feed, resultOf}
+use Rattle.stream.specs.Run.{Totals, run, stopNumber, totalsOf}
 
 -- ---- from the numbers and values of the specification back to the code's answers
 

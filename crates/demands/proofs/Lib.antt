@@ -2,4 +2,3 @@ pub mod OnLedger
 pub mod WithdrawalExact
 pub mod Determined
 pub mod Useless
-pub mod Pieces

@@ -17,10 +17,11 @@ use Rattle.session.specs.declared.state.Session.{Session}
 use Rattle.session.specs.Cells.{Tables, tables, withExcess}
 use Rattle.session.specs.Calls.{entry}
 use Rattle.laid.specs.Laid.{sessionOf, tablesOf}
-use Rattle.checker.specs.Feed.{Result, unchanged, feed}
-use Rattle.checker.specs.Run.{Totals, totals, runBy, run}
+use Rattle.settle.specs.Settling.{Result, unchanged}
+use Rattle.checker.specs.Feed.{feed}
+use Rattle.stream.specs.Run.{Totals, totals, runBy, run}
 use Rattle.demands.specs.Useless.{FeedChecker, RunChecker, MeetsFeed, MeetsRun, RefusesEverything, HasConstantAnswer, WritesNothing, WavesTheRest, InventsTotals, CountsOfNothing}
-use Rattle.demands.proofs.OnLedger.{resultLaid, totalsLaid, feed-laid, run-laid}
+use Rattle.pieces.proofs.RunLaid.{resultLaid, totalsLaid, feed-laid, run-laid}
 
 -- ---- records in bytes
 

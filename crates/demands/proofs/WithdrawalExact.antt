@@ -23,7 +23,8 @@ use Rattle.session.specs.Calls.{entry, started, start, stands, standing}
 use Rattle.checker.specs.Feed.{feed}
 use Rattle.checker.proofs.Beside.{laid-held, excess-beside, entry-beside}
 use Rattle.demands.specs.History.{Call, fed, State, begun, calledAll, recordsFed, history, stillInForce, EachAccepted}
-use Rattle.demands.proofs.OnLedger.{laid, start-laid, feed-laid, ledger-read, all-laid, fed-laid, accepted-laid}
+use Rattle.pieces.proofs.RunLaid.{feed-laid, ledger-read}
+use Rattle.demands.proofs.OnLedger.{laid, start-laid, all-laid, fed-laid, accepted-laid}
 
 stands-same : {a b : ledger.Standing} → stands a ≡ stands b → a ≡ b
 stands-same e = cc

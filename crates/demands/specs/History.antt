@@ -9,7 +9,7 @@ use Rattle.session.specs.declared.state.Session.{Session}
 use Rattle.session.specs.Cells.{Tables}
 use Rattle.session.specs.Calls.{start}
 use Rattle.checker.specs.Feed.{feed}
-use Rattle.checker.specs.Run.{run}
+use Rattle.stream.specs.Run.{run}
 
 -- a record fed, or a run over a stream; the standing changes nothing
 pub data Call : Type 0 where

@@ -6,8 +6,9 @@ use Prim.Native.Nat.{ℕ}
 use Rattle.ledger.specs.Record.{Answer, isAccepted}
 use Rattle.session.specs.declared.state.Session.{Session}
 use Rattle.session.specs.Cells.{Tables}
-use Rattle.checker.specs.Feed.{Result, feed}
-use Rattle.checker.specs.Run.{Totals, run}
+use Rattle.settle.specs.Settling.{Result}
+use Rattle.checker.specs.Feed.{feed}
+use Rattle.stream.specs.Run.{Totals, run}
 
 -- of a session, tables and a record
 abbrev pub FeedChecker : Type 0

@@ -177,7 +177,7 @@ fn run(
     if text.len() < end {
         return cut_short(session);
     }
-    let ran = checker::run::run(session, forms, pool, lines, &text[3..end]);
+    let ran = stream::run(session, forms, pool, lines, &text[3..end]);
     let stop = ran.stop;
     let after = ran.session;
     print_run(ran.records, ran.bytes, stop);

@@ -11,10 +11,10 @@ use Rattle.ints.proofs.Lists.{all-at}
 use Rattle.ledger.specs.Literals.{namesBelow}
 use Rattle.ledger.specs.Ledger.{Line, noLine, literalCount, Mark as LedgerMark}
 use Rattle.ledger.specs.Legal.{lineBelow, MarksIn, Named}
-use Rattle.ledger.proofs.LinesTrue.{named-all}
+use Rattle.ledger.proofs.LegalLaws.{named-all}
 use Rattle.session.specs.declared.state.Mark.{Mark}
 use Rattle.session.specs.Cells.{noMark, downFrom}
-use Rattle.laid.specs.Laid.{markOf, marksLaid}
+use Rattle.laid.specs.Laid.{markLaid, marksLaid}
 use Rattle.laid.proofs.ByIndex.{downFrom-agree}
 use Rattle.laid.proofs.LaidParts.{length-marks}
 
@@ -28,20 +28,20 @@ module _ (ls : List Line) (z : List Mark) where
   laidMark ms k = getD (marksLaid ls ms ++ z) k noMark
 
   -- the last mark stands at its level's number, and the others as if it were not there
-  mark-last : (m : LedgerMark) (ms : List LedgerMark) → laidMark (m ∷ ms) (length ms) ≡ markOf ls m
+  mark-last : (m : LedgerMark) (ms : List LedgerMark) → laidMark (m ∷ ms) (length ms) ≡ markLaid ls m
   unfolding marksLaid
   mark-last m ms =
-      rw (append-assoc (marksLaid ls ms) (markOf ls m ∷ []) z) (getD-at (marksLaid ls ms) (markOf ls m) z noMark (length ms) (length-marks ls ms))
+      rw (append-assoc (marksLaid ls ms) (markLaid ls m ∷ []) z) (getD-at (marksLaid ls ms) (markLaid ls m) z noMark (length ms) (length-marks ls ms))
 
   mark-under : (m : LedgerMark) (ms : List LedgerMark) (k : ℕ) → k < length ms → laidMark (m ∷ ms) k ≡ laidMark ms k
   unfolding marksLaid
   mark-under m ms k h =
       let q : k < length (marksLaid ls ms) = rw (length-marks ls ms) h in
-      rw (append-assoc (marksLaid ls ms) (markOf ls m ∷ []) z)
-      (List·getD-append (marksLaid ls ms) (markOf ls m ∷ z) noMark k q ∙ sym (List·getD-append (marksLaid ls ms) z noMark k q))
+      rw (append-assoc (marksLaid ls ms) (markLaid ls m ∷ []) z)
+      (List·getD-append (marksLaid ls ms) (markLaid ls m ∷ z) noMark k q ∙ sym (List·getD-append (marksLaid ls ms) z noMark k q))
 
   -- what holds of the last mark and of the others holds of each
-  mark-by : (P : Mark → Type 0) (m : LedgerMark) (ms : List LedgerMark) (k : ℕ) → k < length (m ∷ ms) → P (markOf ls m)
+  mark-by : (P : Mark → Type 0) (m : LedgerMark) (ms : List LedgerMark) (k : ℕ) → k < length (m ∷ ms) → P (markLaid ls m)
       → (k < length ms → P (laidMark ms k)) → P (laidMark (m ∷ ms) k)
   mark-by P m ms k h f g =
       elim (decLt k (length ms)) [

@@ -7,3 +7,4 @@ pub mod Sizes
 pub mod LegalLaid
 pub mod OrderLaid
 pub mod InOrderIffLaid
+pub mod HeldLaws

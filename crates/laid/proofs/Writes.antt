@@ -15,9 +15,9 @@ use Rattle.ledger.specs.Ledger.{Line, Ledger, literalCount, Mark as LedgerMark,
 use Rattle.ledger.specs.Legal.{Legal}
 use Rattle.ledger.proofs.LegalLaws.{literals-append, literals-take}
 use Rattle.session.specs.Limits.{lineCells, formCells, formTable, poolTable, lineTable}
-use Rattle.session.specs.Cells.{tables, noMark, countsOf}
-use Rattle.session.specs.Effects.{written, cleared, withForm, withLine, withLevel, lessLevel, freed, FormRoom, LineRoom, LevelRoom, lastMark}
-use Rattle.laid.specs.Laid.{formsLaid, poolLaid, linesLaid, marksLaid, tablesOf, markOf, sessionOf}
+use Rattle.session.specs.Cells.{tables, noMark, countsOf, cellsOfLine}
+use Rattle.session.specs.Effects.{cleared, withForm, formWritten, withLine, literalsWritten, lineWritten, withLevel, lastMark, lessLevel, freed, Between}
+use Rattle.laid.specs.Laid.{formsLaid, poolLaid, linesLaid, marksLaid, tablesOf, markLaid, sessionOf}
 use Rattle.laid.proofs.LaidParts.{length-padded, padded-written, padded-cleared, padded-set, padded-unset, getD-padded}
 use Rattle.laid.proofs.LaidParts.{length-cells, forms-append, length-forms, pool-append, length-pool, lines-append, length-lines}
 use Rattle.laid.proofs.LaidParts.{length-marks, marks-agree}
@@ -47,11 +47,7 @@ module _ (n : ℕ) (l : Ledger) (g : Legal n l) where
   -- ---- one form more
 
   module _ (f : Form) (room : length (l .forms) < mostForms) (whole : length (f .row) ≡ n + 1) where
-    pub form-room : FormRoom n (sessionOf l) (tablesOf n l .forms) (cellsOf f)
-    unfolding sessionOf
-    form-room = record { count = room; table = form-table; whole = length-cells n f whole }
-
-    form-cells : tablesOf n (add l (newForm f)) .forms ≡ written (formCells n * length (l .forms)) (cellsOf f) (tablesOf n l .forms)
+    form-cells : tablesOf n (add l (newForm f)) .forms ≡ formWritten n (length (l .forms)) (cellsOf f) (tablesOf n l .forms)
     unfolding tablesOf add formsLaid
     form-cells =
         let cells : formsLaid (l .forms ++ (f ∷ [])) ≡ formsLaid (l .forms) ++ cellsOf f = rw (forms-append, append-nil) in
@@ -62,17 +58,13 @@ module _ (n : ℕ) (l : Ledger) (g : Legal n l) where
 
     pub form-written : (sessionOf (add l (newForm f)) ≡ withForm (sessionOf l))
         × (tablesOf n (add l (newForm f))
-        ≡ tables (written (formCells n * sessionOf l .forms) (cellsOf f) (tablesOf n l .forms)) (tablesOf n l .pool) (tablesOf n l .lines))
+        ≡ tables (formWritten n (sessionOf l .forms) (cellsOf f) (tablesOf n l .forms)) (tablesOf n l .pool) (tablesOf n l .lines))
     unfolding sessionOf tablesOf add
     form-written = (rw length-append, λ i. tables (form-cells i) (tablesOf n l .pool) (tablesOf n l .lines))
 
   -- ---- one line more
 
   module _ (x : Line) (room : length (l .lines) < mostLines) (literals : literalCount (l .lines) + length (x .literals) ≤ mostLiterals) where
-    pub line-room : LineRoom (sessionOf l) (tablesOf n l .pool) (tablesOf n l .lines) (x .literals)
-    unfolding sessionOf
-    line-room = record { count = room; literals = literals; pool = pool-table; table = line-table }
-
     line-session : sessionOf (add l (newLine x)) ≡ withLine (sessionOf l) (length (x .literals))
     unfolding sessionOf add
     line-session =
@@ -83,7 +75,7 @@ module _ (n : ℕ) (l : Ledger) (g : Legal n l) where
         (λ i q. take-append-le i (l .lines) (x ∷ []) q) in
         rw (length-append, total, marks)
 
-    line-pool : tablesOf n (add l (newLine x)) .pool ≡ written (literalCount (l .lines)) (x .literals) (tablesOf n l .pool)
+    line-pool : tablesOf n (add l (newLine x)) .pool ≡ literalsWritten (literalCount (l .lines)) x (tablesOf n l .pool)
     unfolding tablesOf add poolLaid
     line-pool =
         let cells : poolLaid (l .lines ++ (x ∷ [])) ≡ poolLaid (l .lines) ++ x .literals = rw (pool-append, append-nil) in
@@ -92,10 +84,10 @@ module _ (n : ℕ) (l : Ledger) (g : Legal n l) where
         padded-written 0 poolTable (poolLaid (l .lines)) (x .literals) _ cells fits (literalCount (l .lines)) long
 
     line-cells : tablesOf n (add l (newLine x)) .lines
-        ≡ written (lineCells * length (l .lines)) ((literalCount (l .lines) + length (x .literals)) ∷ x .origin ∷ []) (tablesOf n l .lines)
+        ≡ lineWritten (length (l .lines)) (literalCount (l .lines)) x (tablesOf n l .lines)
     unfolding tablesOf add linesLaid
     line-cells =
-        let new : List ℕ = (literalCount (l .lines) + length (x .literals)) ∷ x .origin ∷ [] in
+        let new = cellsOfLine (literalCount (l .lines) + length (x .literals)) x in
         let cells : linesLaid 0 (l .lines ++ (x ∷ [])) ≡ linesLaid 0 (l .lines) ++ new = rw (lines-append, zero-add) in
         let long = length-lines 0 (l .lines) in
         let fits : length (linesLaid 0 (l .lines ++ (x ∷ []))) ≤ lineTable = rw (cells, length-append) (omega arith) in
@@ -103,8 +95,8 @@ module _ (n : ℕ) (l : Ledger) (g : Legal n l) where
 
     pub line-written : (sessionOf (add l (newLine x)) ≡ withLine (sessionOf l) (length (x .literals)))
         × (tablesOf n (add l (newLine x))
-        ≡ tables (tablesOf n l .forms) (written (sessionOf l .literals) (x .literals) (tablesOf n l .pool))
-        (written (lineCells * sessionOf l .lines) ((sessionOf l .literals + length (x .literals)) ∷ x .origin ∷ []) (tablesOf n l .lines)))
+        ≡ tables (tablesOf n l .forms) (literalsWritten (sessionOf l .literals) x (tablesOf n l .pool))
+        (lineWritten (sessionOf l .lines) (sessionOf l .literals) x (tablesOf n l .lines)))
     unfolding sessionOf tablesOf add
     line-written = (line-session, λ i. tables (tablesOf n l .forms) (line-pool i) (line-cells i))
 
@@ -121,7 +113,7 @@ level-opened n l h =
 -- ---- one level less
 
 abbrev pub Closes : ℕ → Ledger → Type 0
-Closes n l = (sessionOf (withdrawn l) ≡ lessLevel (sessionOf l)) × (tablesOf n (withdrawn l) ≡ freed n (sessionOf l) (tablesOf n l))
+Closes n l = (sessionOf (withdrawn l) ≡ lessLevel (sessionOf l)) × (tablesOf n (withdrawn l) ≡ freed n (lastMark (sessionOf l)) (countsOf (sessionOf l)) (tablesOf n l))
 
 -- a ledger at an open level
 abbrev withLast : List Form → List Line → LedgerMark → List LedgerMark → Ledger
@@ -131,12 +123,12 @@ module _ (n : ℕ) (fs : List Form) (ls : List Line) (m : LedgerMark) (ms : List
   abbrev before : Ledger
   before = withLast fs ls m ms
 
-  last : lastMark (sessionOf before) ≡ markOf ls m
+  last : lastMark (sessionOf before) ≡ markLaid ls m
   unfolding sessionOf marksLaid
   last =
       let long = length-marks ls ms in
       let at : length (m ∷ ms) - 1 ≡ length (marksLaid ls ms) = omega arith in
-      rw at (getD-padded noMark mostLevels (marksLaid ls ms) (markOf ls m) (omega (arith, g .few-levels)) noMark)
+      rw at (getD-padded noMark mostLevels (marksLaid ls ms) (markLaid ls m) (omega (arith, g .few-levels)) noMark)
 
   closed-session : sessionOf (withdrawn before) ≡ lessLevel (sessionOf before)
   unfolding sessionOf marksLaid withdrawn
@@ -145,7 +137,7 @@ module _ (n : ℕ) (fs : List Form) (ls : List Line) (m : LedgerMark) (ms : List
       let long = length-marks ls ms in
       let at : length (m ∷ ms) - 1 ≡ length ms = omega arith in
       let same = marks-agree (take (m .lines) ls) ls ms (m .forms) (m .lines) below (λ i q. take-take i (m .lines) ls q) in
-      let unset = padded-unset noMark mostLevels (marksLaid ls ms) (markOf ls m) (omega (arith, g .few-levels)) in
+      let unset = padded-unset noMark mostLevels (marksLaid ls ms) (markLaid ls m) (omega (arith, g .few-levels)) in
       rw (last, length-take-le (m .forms) fs a, length-take-le (m .lines) ls b, same, unset, long, at)
 
   closed-forms : tablesOf n (withdrawn before) .forms ≡ cleared (pos 0) (formCells n * m .forms) (formCells n * length fs) (tablesOf n before .forms)
@@ -177,12 +169,10 @@ module _ (n : ℕ) (fs : List Form) (ls : List Line) (m : LedgerMark) (ms : List
   unfolding sessionOf
   closed = (closed-session, rw last (λ i. tables (closed-forms i) (closed-pool i) (closed-lines i)))
 
-  closed-room : LevelRoom n (sessionOf before) (tablesOf n before)
+  closed-room : Between n (lastMark (sessionOf before)) (countsOf (sessionOf before)) (tablesOf n before)
   unfolding sessionOf
   closed-room =
       record {
-        «open» = omega arith;
-        levels = g .few-levels;
         forms = rw last (g .marked .0);
         lines = rw last (g .marked .1);
         literals = rw last (literals-take (m .lines) ls);
@@ -203,8 +193,8 @@ at-level n P f l = go (l .marks)
     go (m ∷ ms) g h = f (l .forms) (l .lines) m ms g
 
 module _ (n : ℕ) (l : Ledger) (g : Legal n l) (level : 0 < length (l .marks)) where
-  pub level-room : LevelRoom n (sessionOf l) (tablesOf n l)
-  level-room = at-level n (λ l. LevelRoom n (sessionOf l) (tablesOf n l)) (closed-room n) l g level
+  pub level-room : Between n (lastMark (sessionOf l)) (countsOf (sessionOf l)) (tablesOf n l)
+  level-room = at-level n (λ l. Between n (lastMark (sessionOf l)) (countsOf (sessionOf l)) (tablesOf n l)) (closed-room n) l g level
 
   pub level-closed : Closes n l
   level-closed = at-level n (Closes n) (closed n) l g level

@@ -9,7 +9,7 @@ use Rattle.ledger.specs.Ledger.{Line, Ledger, literalCount, Mark as LedgerMark}
 use Rattle.session.specs.declared.state.Mark.{Mark}
 use Rattle.session.specs.declared.state.Session.{Session}
 use Rattle.session.specs.Limits.{formTable, poolTable, lineTable}
-use Rattle.session.specs.Cells.{Tables, tables, noMark}
+use Rattle.session.specs.Cells.{Tables, tables, noMark, cellsOfLine}
 
 -- xs, and then z up to n cells
 unfoldable pub padded : {A : Type 0} → A → ℕ → List A → List A
@@ -28,7 +28,7 @@ poolLaid (x ∷ xs) = x .literals ++ poolLaid xs
 -- behind lines that end at e
 unfoldable pub linesLaid : ℕ → List Line → List ℕ
 linesLaid e [] = []
-linesLaid e (x ∷ xs) = (e + length (x .literals)) ∷ x .origin ∷ linesLaid (e + length (x .literals)) xs
+linesLaid e (x ∷ xs) = cellsOfLine (e + length (x .literals)) x ++ linesLaid (e + length (x .literals)) xs
 
 unfoldable pub tablesOf : ℕ → Ledger → Tables
 unfolding padded formsLaid poolLaid linesLaid
@@ -41,13 +41,13 @@ tablesOf n l =
 -- ---- the session
 
 -- a mark's literal count is that of the lines below it
-abbrev pub markOf : List Line → LedgerMark → Mark
-markOf ls m = record { forms = m .forms; lines = m .lines; literals = literalCount (take (m .lines) ls) }
+abbrev pub markLaid : List Line → LedgerMark → Mark
+markLaid ls m = record { forms = m .forms; lines = m .lines; literals = literalCount (take (m .lines) ls) }
 
 -- a ledger has its last mark first, a session has it last
 unfoldable pub marksLaid : List Line → List LedgerMark → List Mark
 marksLaid ls [] = []
-marksLaid ls (m ∷ ms) = marksLaid ls ms ++ (markOf ls m ∷ [])
+marksLaid ls (m ∷ ms) = marksLaid ls ms ++ (markLaid ls m ∷ [])
 
 unfoldable pub sessionOf : Ledger → Session
 unfolding padded marksLaid

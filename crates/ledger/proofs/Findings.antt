@@ -3,13 +3,15 @@
 use mathlib.Core.Path.{_≡_, refl, ap}
 use mathlib.Core.Bool.{Bool, true, false, cond}
 use mathlib.Core.List.{List, [], _∷_, _++_}
-use Prim.Native.Nat.{ℕ}
-use lib.Dec.{T}
-use Rattle.ints.proofs.Bools.{never, T→true}
+use Prim.Native.Nat.{ℕ, suc, _≤_, _<_}
+use native.Mathlib.Omega.{arith}
+use lib.Dec.{T, leb, leb→le}
+use Rattle.ints.specs.Tests.{all}
+use Rattle.ints.proofs.Bools.{never, T→true, T-and}
 use Rattle.ledger.specs.Ledger.{Ledger}
-use Rattle.ledger.specs.Record.{Rule, Record, make, Made, accepted, refused}
+use Rattle.ledger.specs.Record.{Record, make, OP, WD, Made, accepted, refused}
 use Rattle.ledger.specs.Checks.{Check, tests, makes, room, checks, Passed}
-use Rattle.ledger.specs.Apply.{Finding, pass, fail, finding, Outcome, judged, done, kept, made, apply}
+use Rattle.ledger.specs.Apply.{Finding, pass, fail, finding, Outcome, judged, proposedBy, proposed, stored, settles, apply, done, made}
 use Rattle.ledger.specs.Bytes.{shape, decode, applyBytes}
 
 -- ---- a list of tests
@@ -51,6 +53,22 @@ pub passed-back : (cs ds : List Check) → Passed (cs ++ ds) → Passed ds
 passed-back [] ds p = p
 passed-back (c ∷ cs) ds p = passed-back cs ds (p .1)
 
+-- the tests have no number below k
+abbrev pub noneBelow : ℕ → List Check → Bool
+noneBelow k cs = all (λ c. leb k (c .number)) cs
+
+-- a list of tests refuses with none but its numbers
+pub finding-from : (k : ℕ) (cs : List Check) {j : ℕ} → T (noneBelow k cs) → finding cs ≡ fail j → k ≤ j
+unfolding finding
+finding-from k [] t e = never (cc)
+finding-from k (c ∷ cs) {j} t e =
+    let u = T-and (leb k (c .number)) (noneBelow k cs) t in
+    go (c .passes) e (leb→le k (c .number) (u .0)) (finding-from k cs (u .1))
+  where
+    go : (p : Bool) → cond p (finding cs) (fail (c .number)) ≡ fail j → k ≤ c .number → (finding cs ≡ fail j → k ≤ j) → k ≤ j
+    go true e h rest = rest e
+    go false e h rest = let s : c .number ≡ j = cc in omega arith
+
 -- ---- what is judged by a finding
 
 judged-accepted : (f : Finding) (l : Ledger) (o : Outcome) (m : Made) → judged f l o .answer ≡ accepted m → (f ≡ pass) × (judged f l o ≡ o)
@@ -61,6 +79,14 @@ judged-refused : (f : Finding) (l : Ledger) (o : Outcome) (k : ℕ) → (o .answ
     → judged f l o .answer ≡ refused k → judged f l o .ledger ≡ l
 judged-refused pass l o k same e = same e
 judged-refused (fail j) l o k same e = refl
+
+pub judged-positive : (k : ℕ) (cs : List Check) (l : Ledger) (o : Outcome) {j : ℕ}
+    → T (noneBelow (suc k) cs) → (o .answer ≡ refused j → 0 < j) → judged (finding cs) l o .answer ≡ refused j → 0 < j
+judged-positive k cs l o {j} t f = go (finding cs) refl
+  where
+    go : (d : Finding) → finding cs ≡ d → judged d l o .answer ≡ refused j → 0 < j
+    go pass h e = f e
+    go (fail i) h e = let g : finding cs ≡ fail j = cc in omega (arith, finding-from (suc k) cs t g)
 
 -- what the ledger has, and the outcome's ledger has where the tests pass, the ledger has after the judgement
 pub judged-keeps : (P : Ledger → Type 0) (cs : List Check) (l : Ledger) (o : Outcome) → P l → (Passed cs → P (o .ledger))
@@ -75,14 +101,30 @@ judged-keeps P (c ∷ cs) l o has f = go (c .passes) (λ t. judged-keeps P cs l 
 
 -- ---- a record, on a ledger of forms of n unknowns
 
+-- the tests of its rule and then those of the ledger, in one list
+pub by-checks : (n : ℕ) (l : Ledger) (r : Record)
+    → apply n l r ≡ judged (finding (checks n l r)) l (record { answer = accepted (made l r); ledger = done l r })
+unfolding apply proposed settles stored checks done made
+by-checks n l (make q) = by (finding (tests n (l .forms) (l .lines) q)) refl
+  where
+    by : (f : Finding) → finding (tests n (l .forms) (l .lines) q) ≡ f
+        → settles l (proposedBy f (makes (l .lines) q))
+        ≡ judged (finding (checks n l (make q))) l (record { answer = accepted (made l (make q)); ledger = done l (make q) })
+    by pass e = rw (pass-append (tests n (l .forms) (l .lines) q) (room l (makes (l .lines) q)) e)
+    by (fail k) e = rw (fail-append (tests n (l .forms) (l .lines) q) (room l (makes (l .lines) q)) k e)
+by-checks n l OP = refl
+by-checks n l WD = refl
+
+-- what the ledger has, and an accepted record leaves, the ledger has after any record
+pub apply-keeps : (P : Ledger → Type 0) (n : ℕ) (l : Ledger) (r : Record) → P l → (Passed (checks n l r) → P (done l r)) → P (apply n l r .ledger)
+apply-keeps P n l r has f = rw (by-checks n l r) (judged-keeps P (checks n l r) l _ has f)
+
 module _ (n : ℕ) (l : Ledger) (r : Record) where
   pub accepted-exactly : Passed (checks n l r) → apply n l r ≡ record { answer = accepted (made l r); ledger = done l r }
-  unfolding apply
-  accepted-exactly p = rw (passed→pass (checks n l r) p)
+  accepted-exactly p = rw (by-checks n l r, passed→pass (checks n l r) p)
 
   accepted-passed : (m : Made) → apply n l r .answer ≡ accepted m → Passed (checks n l r)
-  unfolding apply
-  accepted-passed m e = pass→passed (checks n l r) (judged-accepted (finding (checks n l r)) l _ m e .0)
+  accepted-passed m e = pass→passed (checks n l r) (judged-accepted (finding (checks n l r)) l _ m (rw (by-checks n l r) at e) .0)
 
   pub apply-accepted : (m : Made) → apply n l r .answer ≡ accepted m → Passed (checks n l r) × (apply n l r .ledger ≡ done l r) × (m ≡ made l r)
   apply-accepted m e =
@@ -91,19 +133,7 @@ module _ (n : ℕ) (l : Ledger) (r : Record) where
       (p, ap (λ (o : Outcome). o .ledger) same, (cc))
 
   pub apply-refused : (k : ℕ) → apply n l r .answer ≡ refused k → apply n l r .ledger ≡ l
-  unfolding apply
-  apply-refused k e = judged-refused (finding (checks n l r)) l _ k (λ f. cc) e
-
--- ---- a rule: its tests, and then the room for what it makes
-
-module _ (n : ℕ) (l : Ledger) (r : Rule) where
-  pub rule-passed : finding (tests n (l .forms) (l .lines) r) ≡ pass → apply n l (make r) ≡ kept l (makes (l .lines) r)
-  unfolding apply checks done made kept
-  rule-passed e = rw (pass-append (tests n (l .forms) (l .lines) r) (room l (makes (l .lines) r)) e)
-
-  pub rule-failed : (k : ℕ) → finding (tests n (l .forms) (l .lines) r) ≡ fail k → apply n l (make r) ≡ record { answer = refused k; ledger = l }
-  unfolding apply checks done made
-  rule-failed k e = rw (fail-append (tests n (l .forms) (l .lines) r) (room l (makes (l .lines) r)) k e)
+  apply-refused k e = rw (by-checks n l r) (judged-refused (finding (checks n l r)) l _ k (λ f. cc) (rw (by-checks n l r) at e))
 
 -- ---- bytes
 

@@ -1,33 +1,30 @@
 -- Every accepted record keeps a ledger legal, so that every history of records or of bytes leaves a legal one.
 use mathlib.Core.Path.{_≡_}
 use mathlib.Core.Bool.{and-true}
-use mathlib.Core.List.{List, [], _∷_, _++_, map}
+use mathlib.Core.List.{List, [], _∷_, _++_}
 use Prim.Native.Nat.{ℕ, zero, suc, _+_, _≤_, _<_}
 use native.Mathlib.Decide.{decLt}
 use native.Mathlib.Omega.{arith}
-use lib.Dec.{T, leb, ltb→lt, leb→le}
-use lib.ListN.{length, take, getD, length-append, length-map, List·getD-append}
-use lib.Seq.{getD-at, getD-take, length-take-le, take-length}
+use lib.Dec.{T, ltb→lt, lt→ltb, leb→le}
+use lib.ListN.{length, take, getD, length-append, List·getD-append}
+use lib.Seq.{getD-at, getD-take, length-take-le, take-length, take-append-le}
 use Rattle.ints.specs.Tests.{all}
 use Rattle.ints.proofs.Bools.{T-and, and-T}
-use Rattle.ints.proofs.Lists.{all-at, all-append, all-take}
+use Rattle.ints.proofs.Lists.{all-at, all-append, all-take, all-implies}
 use Rattle.rows.specs.Form.{Form, legal}
-use Rattle.rows.specs.Sum.{Term}
 use Rattle.ledger.specs.Limits.{mostForms, mostLines, mostLiterals, mostLevels, longestLine}
-use Rattle.ledger.specs.Literals.{unnegated, negated, namesBelow, ascending, lineOf, without}
-use Rattle.ledger.specs.Ledger.{Line, derived, Mark, Ledger, fresh, noLine, nthLine, literalCount}
+use Rattle.ledger.specs.Literals.{below}
+use Rattle.ledger.specs.Ledger.{Line, Mark, Ledger, fresh, noLine, literalCount}
 use Rattle.ledger.specs.Ledger.{New, newForm, newLine, add, opened, backTo, withdrawn}
-use Rattle.ledger.specs.Record.{Rule, FM, PM, RS, FK, TO, TR, EQ, TI, WK, CL, Record, make, OP, WD, RecordMark, pm, fk, cl, layout}
-use Rattle.ledger.specs.Checks.{countIn, formsOf, makes, tests, room, checks, Passed}
+use Rattle.ledger.specs.Record.{Record, make, OP, WD}
+use Rattle.ledger.specs.Checks.{makes, tests, room, checks, Passed}
 use Rattle.ledger.specs.Apply.{Outcome, done, apply}
 use Rattle.ledger.specs.Bytes.{shape, decode, applyBytes}
 use Rattle.ledger.specs.History.{afterBy, afterBytes}
-use Rattle.ledger.specs.Legal.{lineBelow, LegalLine, Legal}
-use Rattle.ledger.proofs.Findings.{passed-front, passed-back, judged-keeps}
+use Rattle.ledger.specs.Legal.{lineBelow, LegalLine, MarksIn, Named, Legal}
+use Rattle.ledger.proofs.Findings.{passed-front, passed-back, judged-keeps, apply-keeps}
 use Rattle.ledger.proofs.Withdrawal.{marked-add, marked-done}
-use Rattle.ledger.proofs.LiteralLaws.{ascending-joined, ascending-lineOf, ascending-without, ascending-negated, length-lineOf}
-use Rattle.ledger.proofs.RuleSound.{Owed, owed}
-use Rattle.ledger.proofs.LinesTrue.{named-all, named-more, named-line, below-more}
+use Rattle.ledger.proofs.RuleLaws.{LegalNew, owed}
 
 pub literals-append : (ls ks : List Line) → literalCount (ls ++ ks) ≡ literalCount ls + literalCount ks
 literals-append [] ks = omega arith
@@ -38,50 +35,29 @@ literals-take zero ls = omega arith
 literals-take (suc n) [] = omega arith
 literals-take (suc n) (x ∷ ls) = omega (arith, literals-take n ls)
 
--- ---- what a rule makes
+-- ---- the forms that lines name
 
--- over n unknowns and k forms
-abbrev pub LegalNew : ℕ → ℕ → New → Type 0
-LegalNew n k (newForm f) = T (legal n f)
-LegalNew n k (newLine x) = LegalLine k x
+pub named-all : (n : ℕ) (ls : List Line) (ms : List Mark) → Named n ls ms → T (all (lineBelow n) ls)
+named-all n ls [] h = h
+named-all n ls (m ∷ ms) h = h .0
 
-counted : (m : RecordMark) (k : ℕ) → T (countIn m k) → k ≤ layout m .most
-counted m k t = leb→le k (layout m .most) (T-and (leb (layout m .least) k) (leb k (layout m .most)) t .1)
+pub below-more : (n m : ℕ) → n ≤ m → (x : Line) → T (lineBelow n x) → T (lineBelow m x)
+below-more n m h x = all-implies (below n) (below m) (λ y t. omega (arith, ltb→lt, lt→ltb)) (x .literals)
 
-module _ (k : ℕ) where
-  legal-lineOf : (xs : List ℕ) → length xs ≤ longestLine → T (namesBelow k (lineOf xs))
-      → LegalLine k (record { origin = derived; literals = lineOf xs })
-  legal-lineOf xs h names = record { origin = tt; short = omega (arith, length-lineOf xs); ascends = ascending-lineOf xs; names = names }
+names-more : (n m : ℕ) → n ≤ m → (ls : List Line) → T (all (lineBelow n) ls) → T (all (lineBelow m) ls)
+names-more n m h = all-implies (lineBelow n) (lineBelow m) (below-more n m h)
 
-  legal-negated : (ts : List Term) → length ts ≤ longestLine → T (ascending (formsOf ts)) → T (namesBelow k (map negated (formsOf ts)))
-      → LegalLine k (record { origin = derived; literals = map negated (formsOf ts) })
-  legal-negated ts h ascends names =
-      record { origin = tt; short = simp length-map h; ascends = ascending-negated (formsOf ts) ascends; names = names }
+pub named-more : (n m : ℕ) (ls : List Line) (ms : List Mark) → n ≤ m → Named n ls ms → Named m ls ms
+named-more n m ls [] h t = names-more n m h ls t
+named-more n m ls (_ ∷ _) h t = (names-more n m h ls (t .0), t .1)
 
-module _ (n : ℕ) (l : Ledger) (g : Legal n l) where
-  legal-made : (r : Rule) → Passed (tests n (l .forms) (l .lines) r) → Owed (l .forms) (l .lines) (makes (l .lines) r)
-      → LegalNew n (length (l .forms)) (makes (l .lines) r)
-  unfolding makes tests
-  legal-made (FM f) (content, _) o = content
-  legal-made (PM xs) (count, (_, (ascends, _))) (names, _) =
-      record { origin = tt; short = counted pm (length xs) count; ascends = ascends; names = names }
-  legal-made (RS p i j) (_, (iIn, (jIn, (_, (_, (short, _)))))) (names, _) =
-      record {
-        origin = tt;
-        short = leb→le _ longestLine short;
-        ascends =
-            ascending-joined (without (unnegated p) (nthLine (l .lines) i)) (without (negated p) (nthLine (l .lines) j))
-            (ascending-without (unnegated p) (nthLine (l .lines) i) (g .each i (ltb→lt i (length (l .lines)) iIn) .ascends))
-            (ascending-without (negated p) (nthLine (l .lines) j) (g .each j (ltb→lt j (length (l .lines)) jIn) .ascends));
-        names = names;
-      }
-  legal-made (FK ts) (count, (_, (ascends, _))) (names, _) = legal-negated (length (l .forms)) ts (counted fk (length ts) count) ascends names
-  legal-made (TO a b) _ (names, _) = legal-lineOf (length (l .forms)) (unnegated a ∷ unnegated b ∷ []) (omega arith) names
-  legal-made (TR z u v) _ (names, _) = legal-lineOf (length (l .forms)) (unnegated z ∷ unnegated u ∷ unnegated v ∷ []) (omega arith) names
-  legal-made (EQ z a) _ (names, _) = legal-lineOf (length (l .forms)) (negated z ∷ unnegated a ∷ []) (omega arith) names
-  legal-made (TI a b c) _ (names, _) = legal-lineOf (length (l .forms)) (negated a ∷ unnegated b ∷ []) (omega arith) names
-  legal-made (WK z d) _ (names, _) = legal-lineOf (length (l .forms)) (negated z ∷ unnegated d ∷ []) (omega arith) names
-  legal-made (CL ts) (count, (_, (ascends, _))) (names, _) = legal-negated (length (l .forms)) ts (counted cl (length ts) count) ascends names
+pub named-line : (n : ℕ) (ls : List Line) (x : Line) (ms : List Mark) (f : ℕ) → MarksIn f (length ls) ms → Named n ls ms → T (lineBelow n x)
+    → Named n (ls ++ (x ∷ [])) ms
+named-line n ls x [] f k t u = simp (all-append, and-true) (and-T (all (lineBelow n) ls) (lineBelow n x) t u)
+named-line n ls x (m ∷ ms) f k t u = (
+  simp (all-append, and-true) (and-T (all (lineBelow n) ls) (lineBelow n x) (t .0) u),
+  rw (take-append-le (m .lines) ls (x ∷ []) (k .1)) (t .1),
+)
 
 -- ---- one form or line more
 
@@ -184,15 +160,12 @@ pub legal-done : (n : ℕ) (l : Ledger) (r : Record) → Legal n l → Passed (c
 unfolding done checks
 legal-done n l (make r) g p =
     let ts = tests n (l .forms) (l .lines) r in
-    let t = passed-front ts _ p in
-    let names = named-all (length (l .forms)) (l .lines) (l .marks) (g .named) in
-    legal-add n l (makes (l .lines) r) g (passed-back ts _ p) (legal-made n l g r t (owed n (l .forms) (l .lines) names r t))
+    legal-add n l (makes (l .lines) r) g (passed-back ts _ p) (owed n (l .forms) (l .lines) (g .each) r (passed-front ts _ p) .legal)
 legal-done n l OP g p = legal-opened n l g (ltb→lt (length (l .marks)) mostLevels (p .0))
 legal-done n l WD g p = legal-withdrawn n l g
 
 pub legal-apply : (n : ℕ) (l : Ledger) (r : Record) → Legal n l → Legal n (apply n l r .ledger)
-unfolding apply
-legal-apply n l r g = judged-keeps (Legal n) (checks n l r) l _ g (legal-done n l r g)
+legal-apply n l r g = apply-keeps (Legal n) n l r g (legal-done n l r g)
 
 pub legal-applyBytes : (n : ℕ) (l : Ledger) (b : List ℕ) → Legal n l → Legal n (applyBytes n l b .ledger)
 unfolding applyBytes

@@ -4,8 +4,9 @@ pub mod InForce
 pub mod Restored
 pub mod LiteralLaws
 pub mod TruthLaws
-pub mod RuleSound
+pub mod LayoutLaws
+pub mod RuleLaws
 pub mod StandingLaws
+pub mod LegalLaws
 pub mod LinesTrue
 pub mod RunLaws
-pub mod LegalLaws

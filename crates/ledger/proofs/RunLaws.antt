@@ -12,29 +12,17 @@ use lib.Seq.{take-all}
 use Rattle.ints.specs.Tests.{all}
 use Rattle.ints.proofs.Bools.{never, T-and}
 use Rattle.ledger.specs.Ledger.{Ledger, fresh}
-use Rattle.ledger.specs.Record.{Record, make, OP, WD, FM, PM, RS, FK, TO, TR, EQ, TI, WK, CL, Made, Answer, accepted, refused, isAccepted}
-use Rattle.ledger.specs.Record.{RecordMark, fm, pm, rs, fk, to, tr, eq, ti, wk, cl, op, wd, layout}
-use Rattle.ledger.specs.Checks.{Check, countIn, checks}
-use Rattle.ledger.specs.Apply.{Finding, pass, fail, finding, Outcome, judged, done, made, apply}
-use Rattle.ledger.specs.Bytes.{byteAt, Bearing, unknown, bears, markOf, bytesFor, shapeOf, shape, decode, applyBytes}
+use Rattle.ledger.specs.Record.{Record, Made, Answer, accepted, refused, isAccepted, layout}
+use Rattle.ledger.specs.Checks.{countIn, checks}
+use Rattle.ledger.specs.Apply.{finding, Outcome, judged, apply, done, made}
+use Rattle.ledger.specs.Bytes.{Bearing, unknown, bears, markOf, bytesFor, countFrom, shapeOf, shape, decode, applyBytes}
 use Rattle.ledger.specs.Run.{frontBytes, front, split, recordsOf, Run, runFrom, run, fedAll, AllAccepted, Stops}
 use Rattle.ledger.specs.History.{afterBy, AcceptedBy, afterBytes, AcceptedBytes}
+use Rattle.ledger.proofs.Findings.{noneBelow, judged-positive, by-checks}
+use Rattle.ledger.proofs.LayoutLaws.{two-letters}
+use Rattle.ledger.proofs.RuleLaws.{checks-numbered}
 
 -- ---- the records of a stream
-
-layout-positive : (m : RecordMark) → 1 ≤ layout m .bytes
-layout-positive fm = lit≤ tt
-layout-positive pm = lit≤ tt
-layout-positive rs = lit≤ tt
-layout-positive fk = lit≤ tt
-layout-positive to = lit≤ tt
-layout-positive tr = lit≤ tt
-layout-positive eq = lit≤ tt
-layout-positive ti = lit≤ tt
-layout-positive wk = lit≤ tt
-layout-positive cl = lit≤ tt
-layout-positive op = lit≤ tt
-layout-positive wd = lit≤ tt
 
 -- a record has a byte at least
 pub front-positive : (x : ℕ) (b : List ℕ) → 1 ≤ front (x ∷ b)
@@ -48,8 +36,8 @@ front-positive x b = go (markOf (x ∷ b))
     go : (m : Bearing) → 1 ≤ frontBytes (x ∷ b) m
     go unknown = omega arith
     go (bears m) =
-        let some : (n : ℕ) → 1 ≤ bytesFor m n = λ n. omega (arith, layout-positive m) in
-        either (layout m .counted) _ _ (either (countIn m (byteAt (x ∷ b) 2)) _ _ (some _) (omega arith)) (some 0)
+        let some : (n : ℕ) → 1 ≤ bytesFor m n = λ n. omega (arith, two-letters m) in
+        either (layout m .counted) _ _ (either (countIn m (countFrom m (x ∷ b))) _ _ (some _) (omega arith)) (some 0)
 
 abbrev frontRecord : List ℕ → List ℕ
 frontRecord b = take (front b) b
@@ -94,59 +82,17 @@ records-step x b = ap (λ r. frontRecord (x ∷ b) ∷ r) (fuel-enough (length b
 
 -- ---- no refusal has the number 0
 
--- the tests have no number below k
-pub numbered : ℕ → List Check → Bool
-numbered k cs = all (λ c. leb k (c .number)) cs
-
--- a list of tests refuses with none but its numbers
-pub finding-from : (k : ℕ) (cs : List Check) {j : ℕ} → T (numbered k cs) → finding cs ≡ fail j → k ≤ j
-unfolding numbered finding
-finding-from k [] t e = never (cc)
-finding-from k (c ∷ cs) {j} t e =
-    let u = T-and (leb k (c .number)) (numbered k cs) t in
-    go (c .passes) e (leb→le k (c .number) (u .0)) (finding-from k cs (u .1))
-  where
-    go : (p : Bool) → cond p (finding cs) (fail (c .number)) ≡ fail j → k ≤ c .number → (finding cs ≡ fail j → k ≤ j) → k ≤ j
-    go true e h rest = rest e
-    go false e h rest = let s : c .number ≡ j = cc in omega arith
-
-shape-numbered : (b : List ℕ) → T (numbered 1 (shape b))
-unfolding numbered shape
+shape-numbered : (b : List ℕ) → T (noneBelow 1 (shape b))
+unfolding shape
 shape-numbered b = go (markOf b)
   where
-    go : (m : Bearing) → T (numbered 1 (shapeOf b m))
+    go : (m : Bearing) → T (noneBelow 1 (shapeOf b m))
     go unknown = tt
     go (bears m) = tt
 
--- 3 and below belong to the sizes, the order and the shape
-pub checks-numbered : (n : ℕ) (l : Ledger) (r : Record) → T (numbered 4 (checks n l r))
-unfolding numbered checks
-checks-numbered n l (make (FM f)) = tt
-checks-numbered n l (make (PM xs)) = tt
-checks-numbered n l (make (RS p i j)) = tt
-checks-numbered n l (make (FK ts)) = tt
-checks-numbered n l (make (TO a b)) = tt
-checks-numbered n l (make (TR z u v)) = tt
-checks-numbered n l (make (EQ z a)) = tt
-checks-numbered n l (make (TI a b c)) = tt
-checks-numbered n l (make (WK z g)) = tt
-checks-numbered n l (make (CL ts)) = tt
-checks-numbered n l OP = tt
-checks-numbered n l WD = tt
-
-judged-positive : (k : ℕ) (cs : List Check) (l : Ledger) (o : Outcome) {j : ℕ}
-    → T (numbered (suc k) cs) → (o .answer ≡ refused j → 0 < j) → judged (finding cs) l o .answer ≡ refused j → 0 < j
-judged-positive k cs l o {j} t f = go (finding cs) refl
-  where
-    go : (d : Finding) → finding cs ≡ d → judged d l o .answer ≡ refused j → 0 < j
-    go pass h e = f e
-    go (fail i) h e = let g : finding cs ≡ fail j = cc in omega (arith, finding-from (suc k) cs t g)
-
 pub never-zero : (n : ℕ) (l : Ledger) (b : List ℕ) {k : ℕ} → applyBytes n l b .answer ≡ refused k → 0 < k
 unfolding applyBytes
-never-zero n l b =
-    judged-positive 0 (shape b) l (apply n l r) (shape-numbered b)
-    (judged-positive 3 (checks n l r) l o (checks-numbered n l r) made-none)
+never-zero n l b = judged-positive 0 (shape b) l (apply n l r) (shape-numbered b) (λ e. of-checks (rw (by-checks n l r) at e))
   where
     r : Record
     r = decode b
@@ -154,8 +100,8 @@ never-zero n l b =
     o : Outcome
     o = record { answer = accepted (made l r); ledger = done l r }
 
-    made-none : {k : ℕ} → o .answer ≡ refused k → 0 < k
-    made-none e = let z : _≡_ {A = ℕ} 0 1 = cc in omega arith
+    of-checks : {k : ℕ} → judged (finding (checks n l r)) l o .answer ≡ refused k → 0 < k
+    of-checks = judged-positive 3 (checks n l r) l o (checks-numbered n l r) (λ e. let z : _≡_ {A = ℕ} 0 1 = cc in omega arith)
 
 -- ---- a run
 

@@ -9,9 +9,10 @@ use Rattle.rows.specs.Form.{Form}
 use Rattle.rows.specs.Sum.{Term}
 use Rattle.ledger.specs.Limits.{carried}
 use Rattle.ledger.specs.Ledger.{Ledger}
-use Rattle.ledger.specs.Record.{Record, make, OP, WD, FM, PM, RS, FK, TO, TR, EQ, TI, WK, CL, RecordMark, fm, pm, rs, fk, to, tr, eq, ti, wk, cl, op, wd, layout, marks}
+use Rattle.ledger.specs.Record.{Rule, FM, PM, RS, FK, TO, TR, EQ, TI, WK, CL, Record, make, OP, WD}
+use Rattle.ledger.specs.Record.{RuleMark, fm, pm, rs, fk, to, tr, eq, ti, wk, cl, RecordMark, ofRule, op, wd, ruleLayout, layout, marks}
 use Rattle.ledger.specs.Checks.{Check, _else_, countIn}
-use Rattle.ledger.specs.Apply.{Outcome, judged, finding, apply}
+use Rattle.ledger.specs.Apply.{finding, Outcome, judged, apply}
 
 -- ---- numbers, little endian
 
@@ -52,15 +53,19 @@ markOf b = firstOf b marks
 abbrev pub bytesFor : RecordMark → ℕ → ℕ
 bytesFor m n = layout m .bytes + layout m .each * n
 
+-- the count of a record that bears the mark
+abbrev pub countFrom : RecordMark → List ℕ → ℕ
+countFrom m b = byteAt b (layout m .place)
+
 -- ---- shape: fewer than 2 bytes, 3; mark, 4; count byte missing, 3; count, 5; whole length, 3
 
 abbrev pub shapeOf : List ℕ → Bearing → List Check
 shapeOf b unknown = (false else 4) ∷ []
 shapeOf b (bears m) =
     (true else 4)
-    ∷ (not (layout m .counted) || leb 3 (length b) else 3)
-    ∷ (not (layout m .counted) || countIn m (byteAt b 2) else 5)
-    ∷ (eqb (length b) (bytesFor m (cond (layout m .counted) (byteAt b 2) 0)) else 3)
+    ∷ (not (layout m .counted) || ltb (layout m .place) (length b) else 3)
+    ∷ (not (layout m .counted) || countIn m (countFrom m b) else 5)
+    ∷ (eqb (length b) (bytesFor m (cond (layout m .counted) (countFrom m b) 0)) else 3)
     ∷ []
 
 unfoldable pub shape : List ℕ → List Check
@@ -72,23 +77,28 @@ shape b = (leb 2 (length b) else 3) ∷ shapeOf b (markOf b)
 abbrev pub formFrom : List ℕ → Form
 formFrom b = record { kind = pos (byteAt b 2); divisor = pos (u16At b 3); row = each (carried + 1) (λ i. i32At b (5 + 4 * i)) }
 
-abbrev pub literalsFrom : List ℕ → List ℕ
-literalsFrom b = each (byteAt b 2) (λ i. u16At b (3 + 2 * i))
+-- as many literals as the count at place p says, from right behind it on
+abbrev pub literalsBehind : ℕ → List ℕ → List ℕ
+literalsBehind p b = each (byteAt b p) (λ i. u16At b (p + 1 + 2 * i))
 
-abbrev pub termsFrom : List ℕ → List Term
-termsFrom b = each (byteAt b 2) (λ i. record { form = u16At b (3 + 6 * i); multiplier = i32At b (5 + 6 * i) })
+-- and terms
+abbrev pub termsBehind : ℕ → List ℕ → List Term
+termsBehind p b = each (byteAt b p) (λ i. record { form = u16At b (p + 1 + 6 * i); multiplier = i32At b (p + 3 + 6 * i) })
+
+abbrev pub ruleFrom : List ℕ → RuleMark → Rule
+ruleFrom b fm = FM (formFrom b)
+ruleFrom b pm = PM (literalsBehind (ruleLayout pm .place) b)
+ruleFrom b rs = RS (u16At b 2) (u16At b 4) (u16At b 6)
+ruleFrom b fk = FK (termsBehind (ruleLayout fk .place) b)
+ruleFrom b to = TO (u16At b 2) (u16At b 4)
+ruleFrom b tr = TR (u16At b 2) (u16At b 4) (u16At b 6)
+ruleFrom b eq = EQ (u16At b 2) (u16At b 4)
+ruleFrom b ti = TI (u16At b 2) (u16At b 4) (i32At b 6)
+ruleFrom b wk = WK (u16At b 2) (u16At b 4)
+ruleFrom b cl = CL (termsBehind (ruleLayout cl .place) b)
 
 abbrev pub fields : List ℕ → RecordMark → Record
-fields b fm = make (FM (formFrom b))
-fields b pm = make (PM (literalsFrom b))
-fields b rs = make (RS (u16At b 2) (u16At b 4) (u16At b 6))
-fields b fk = make (FK (termsFrom b))
-fields b to = make (TO (u16At b 2) (u16At b 4))
-fields b tr = make (TR (u16At b 2) (u16At b 4) (u16At b 6))
-fields b eq = make (EQ (u16At b 2) (u16At b 4))
-fields b ti = make (TI (u16At b 2) (u16At b 4) (i32At b 6))
-fields b wk = make (WK (u16At b 2) (u16At b 4))
-fields b cl = make (CL (termsFrom b))
+fields b (ofRule m) = make (ruleFrom b m)
 fields b op = OP
 fields b wd = WD
 

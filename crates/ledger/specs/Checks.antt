@@ -14,7 +14,7 @@ use Rattle.rows.specs.Conditions.{sameRow, isOneMinus, isOneMore, isEither, tig
 use Rattle.ledger.specs.Limits.{mostForms, mostLines, mostLiterals, mostLevels, longestLine}
 use Rattle.ledger.specs.Literals.{unnegated, negated, formNamed, ascending, holds, joined, lineOf, without}
 use Rattle.ledger.specs.Ledger.{Line, premise, derived, Ledger, nthForm, nthRow, nthLine, literalCount, New, newForm, newLine}
-use Rattle.ledger.specs.Record.{Rule, FM, PM, RS, FK, TO, TR, EQ, TI, WK, CL, Record, make, OP, WD, RecordMark, pm, fk, cl, layout}
+use Rattle.ledger.specs.Record.{Rule, FM, PM, RS, FK, TO, TR, EQ, TI, WK, CL, Record, make, OP, WD, RuleMark, pm, fk, cl, RecordMark, ofRule, layout}
 
 -- a test, and the refusal's number where it fails
 pub record Check : Type 0 where
@@ -53,6 +53,10 @@ abbrev pub firstDivisor : List Form → List Term → ℤ
 firstDivisor fs [] = pos 0
 firstDivisor fs (t ∷ ts) = nthForm fs (t .form) .divisor
 
+-- two forms in force, each of its kind
+abbrev pub bothAre : List Form → ℤ → ℕ → ℤ → ℕ → List Check
+bothAre fs j a k b = (formIn fs a else 8) ∷ (formIn fs b else 8) ∷ (isKind fs j a else 10) ∷ (isKind fs k b else 10) ∷ []
+
 -- RS: the first parent less the unnegated pivot, joined with the second less the negated one
 abbrev pub resolvent : List Line → ℕ → ℕ → ℕ → List ℕ
 resolvent ls p i j = joined (without (unnegated p) (nthLine ls i)) (without (negated p) (nthLine ls j))
@@ -74,11 +78,25 @@ makes ls (TI a b c) = derivedLine (lineOf (negated a ∷ unnegated b ∷ []))
 makes ls (WK z g) = derivedLine (lineOf (negated z ∷ unnegated g ∷ []))
 makes ls (CL ts) = derivedLine (map negated (formsOf ts))
 
+-- ---- the lines that a rule draws on
+
+abbrev pub parents : Rule → List ℕ
+parents (FM f) = []
+parents (PM xs) = []
+parents (RS p i j) = i ∷ j ∷ []
+parents (FK ts) = []
+parents (TO a b) = []
+parents (TR z u v) = []
+parents (EQ z a) = []
+parents (TI a b c) = []
+parents (WK z g) = []
+parents (CL ts) = []
+
 -- ---- the tests of each rule, over n unknowns
 
 unfoldable pub tests : ℕ → List Form → List Line → Rule → List Check
 tests n fs ls (FM f) = (legal n f else 6) ∷ []
-tests n fs ls (PM xs) = (countIn pm (length xs) else 5) ∷ (all (literalIn fs) xs else 8) ∷ (ascending xs else 9) ∷ []
+tests n fs ls (PM xs) = (countIn (ofRule pm) (length xs) else 5) ∷ (all (literalIn fs) xs else 8) ∷ (ascending xs else 9) ∷ []
 tests n fs ls (RS p i j) =
     (formIn fs p else 8)
     ∷ (lineIn ls i else 8)
@@ -88,20 +106,14 @@ tests n fs ls (RS p i j) =
     ∷ (leb (length (resolvent ls p i j)) longestLine else 12)
     ∷ []
 tests n fs ls (FK ts) =
-    (countIn fk (length ts) else 5)
+    (countIn (ofRule fk) (length ts) else 5)
     ∷ (all (formIn fs) (formsOf ts) else 8)
     ∷ (ascending (formsOf ts) else 9)
     ∷ (all (λ t. isKind fs atMost (t .form) || isKind fs isZero (t .form)) ts else 10)
     ∷ (all (λ t. legalMultiplier (nthForm fs (t .form) .kind) (t .multiplier)) ts else 10)
     ∷ (farkas (summed n (nthRow fs) ts) else 11)
     ∷ []
-tests n fs ls (TO a b) =
-    (formIn fs a else 8)
-    ∷ (formIn fs b else 8)
-    ∷ (isKind fs atMost a else 10)
-    ∷ (isKind fs atMost b else 10)
-    ∷ (isOneMinus (nthRow fs b) (nthRow fs a) else 11)
-    ∷ []
+tests n fs ls (TO a b) = bothAre fs atMost a atMost b ++ ((isOneMinus (nthRow fs b) (nthRow fs a) else 11) ∷ [])
 tests n fs ls (TR z u v) =
     (formIn fs z else 8)
     ∷ (formIn fs u else 8)
@@ -112,30 +124,13 @@ tests n fs ls (TR z u v) =
     ∷ (isOneMore (nthRow fs u) (nthRow fs z) else 11)
     ∷ (isOneMinus (nthRow fs v) (nthRow fs z) else 11)
     ∷ []
-tests n fs ls (EQ z a) =
-    (formIn fs z else 8)
-    ∷ (formIn fs a else 8)
-    ∷ (isKind fs isZero z else 10)
-    ∷ (isKind fs atMost a else 10)
-    ∷ (isEither (nthRow fs a) (nthRow fs z) else 11)
-    ∷ []
+tests n fs ls (EQ z a) = bothAre fs isZero z atMost a ++ ((isEither (nthRow fs a) (nthRow fs z) else 11) ∷ [])
 tests n fs ls (TI a b c) =
-    (formIn fs a else 8)
-    ∷ (formIn fs b else 8)
-    ∷ (isKind fs atMost a else 10)
-    ∷ (isKind fs atMost b else 10)
-    ∷ (between (pos 1) (pos largestMultiplier) c else 10)
-    ∷ (tightens c (nthRow fs a) (nthRow fs b) else 11)
-    ∷ []
-tests n fs ls (WK z g) =
-    (formIn fs z else 8)
-    ∷ (formIn fs g else 8)
-    ∷ (isKind fs isZero z else 10)
-    ∷ (isKind fs isDivided g else 10)
-    ∷ (sameRow (nthRow fs z) (nthRow fs g) else 11)
-    ∷ []
+    bothAre fs atMost a atMost b
+    ++ ((between (pos 1) (pos largestMultiplier) c else 10) ∷ (tightens c (nthRow fs a) (nthRow fs b) else 11) ∷ [])
+tests n fs ls (WK z g) = bothAre fs isZero z isDivided g ++ ((sameRow (nthRow fs z) (nthRow fs g) else 11) ∷ [])
 tests n fs ls (CL ts) =
-    (countIn cl (length ts) else 5)
+    (countIn (ofRule cl) (length ts) else 5)
     ∷ (all (formIn fs) (formsOf ts) else 8)
     ∷ (ascending (formsOf ts) else 9)
     ∷ (all (λ t. isKind fs isDivided (t .form)) ts else 10)
@@ -152,11 +147,20 @@ room l (newLine x) =
     ∷ (leb (literalCount (l .lines) + length (x .literals)) mostLiterals else 7)
     ∷ []
 
+-- room for one level more
+abbrev pub levelLeft : Ledger → List Check
+levelLeft l = (ltb (length (l .marks)) mostLevels else 7) ∷ []
+
+-- a level to withdraw
+abbrev pub levelOpen : Ledger → List Check
+levelOpen l = (ltb 0 (length (l .marks)) else 13) ∷ []
+
+-- all tests of a record
 unfoldable pub checks : ℕ → Ledger → Record → List Check
 unfolding tests makes room
 checks n l (make r) = tests n (l .forms) (l .lines) r ++ room l (makes (l .lines) r)
-checks n l OP = (ltb (length (l .marks)) mostLevels else 7) ∷ []
-checks n l WD = (ltb 0 (length (l .marks)) else 13) ∷ []
+checks n l OP = levelLeft l
+checks n l WD = levelOpen l
 
 -- every test passes
 abbrev pub Passed : List Check → Type 0

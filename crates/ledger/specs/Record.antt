@@ -1,7 +1,7 @@
 -- Records with their fields, the marks that they bear, and what is answered.
 use mathlib.Core.Bool.{Bool, true, false}
-use mathlib.Core.List.{List, [], _∷_}
-use Prim.Native.Nat.{ℕ}
+use mathlib.Core.List.{List, [], _∷_, _++_, map}
+use Prim.Native.Nat.{ℕ, _+_}
 use lib.IntN.{ℤ}
 use Rattle.rows.specs.Limits.{mostTerms}
 use Rattle.rows.specs.Form.{Form}
@@ -44,39 +44,57 @@ isAccepted (refused n) = ⊥
 
 -- ---- marks: how records of each look in bytes
 
-pub data RecordMark : Type 0 where
-  fm pm rs fk to tr eq ti wk cl op wd : RecordMark
+-- the marks of the rules
+pub data RuleMark : Type 0 where
+  fm pm rs fk to tr eq ti wk cl : RuleMark
 
--- two letters; a count with its range, or none; and the bytes: all of them at count 0, and how many more for each that is counted
+pub data RecordMark : Type 0 where
+  ofRule : RuleMark → RecordMark
+  op wd : RecordMark
+
+-- two letters; a count with its place and its range, or none; and the bytes: all of them at count 0, and how many more for each that is counted
 pub record Layout : Type 0 where
   pub first : ℕ
   pub second : ℕ
   pub counted : Bool
+  pub place : ℕ
   pub least : ℕ
   pub most : ℕ
   pub bytes : ℕ
   pub each : ℕ
 
 abbrev pub fixed : ℕ → ℕ → ℕ → Layout
-fixed a b n = record { first = a; second = b; counted = false; least = 0; most = 0; bytes = n; each = 0 }
+fixed a b n = record { first = a; second = b; counted = false; place = 0; least = 0; most = 0; bytes = n; each = 0 }
 
-abbrev pub counting : ℕ → ℕ → ℕ → ℕ → ℕ → Layout
-counting a b least most each = record { first = a; second = b; counted = true; least = least; most = most; bytes = 3; each = each }
+-- what is counted stands right behind the count
+abbrev pub counting : ℕ → ℕ → ℕ → ℕ → ℕ → ℕ → Layout
+counting a b place least most each =
+    record { first = a; second = b; counted = true; place = place; least = least; most = most; bytes = place + 1; each = each }
+
+-- the place right behind the two letters
+abbrev pub behindLetters : ℕ
+behindLetters = 2
 
 -- the letters by their ASCII numbers
+abbrev pub ruleLayout : RuleMark → Layout
+ruleLayout fm = fixed 70 77 57
+ruleLayout pm = counting 80 77 behindLetters 0 longestLine 2
+ruleLayout rs = fixed 82 83 8
+ruleLayout fk = counting 70 75 behindLetters 1 mostTerms 6
+ruleLayout to = fixed 84 79 6
+ruleLayout tr = fixed 84 82 8
+ruleLayout eq = fixed 69 81 6
+ruleLayout ti = fixed 84 73 10
+ruleLayout wk = fixed 87 75 6
+ruleLayout cl = counting 67 76 behindLetters 1 mostTerms 6
+
 abbrev pub layout : RecordMark → Layout
-layout fm = fixed 70 77 57
-layout pm = counting 80 77 0 longestLine 2
-layout rs = fixed 82 83 8
-layout fk = counting 70 75 1 mostTerms 6
-layout to = fixed 84 79 6
-layout tr = fixed 84 82 8
-layout eq = fixed 69 81 6
-layout ti = fixed 84 73 10
-layout wk = fixed 87 75 6
-layout cl = counting 67 76 1 mostTerms 6
+layout (ofRule m) = ruleLayout m
 layout op = fixed 79 80 2
 layout wd = fixed 87 68 2
 
+abbrev pub ruleMarks : List RuleMark
+ruleMarks = fm ∷ pm ∷ rs ∷ fk ∷ to ∷ tr ∷ eq ∷ ti ∷ wk ∷ cl ∷ []
+
 abbrev pub marks : List RecordMark
-marks = fm ∷ pm ∷ rs ∷ fk ∷ to ∷ tr ∷ eq ∷ ti ∷ wk ∷ cl ∷ op ∷ wd ∷ []
+marks = map ofRule ruleMarks ++ (op ∷ wd ∷ [])

@@ -9,7 +9,7 @@ use lib.ListN.{length, take, drop, getD}
 use Rattle.ledger.specs.Ledger.{Line, Ledger}
 use Rattle.ledger.specs.Record.{accepted, refused, isAccepted, layout}
 use Rattle.ledger.specs.Checks.{countIn}
-use Rattle.ledger.specs.Bytes.{byteAt, Bearing, unknown, bears, markOf, bytesFor, applyBytes}
+use Rattle.ledger.specs.Bytes.{Bearing, unknown, bears, markOf, bytesFor, countFrom, applyBytes}
 
 -- ---- the records of a stream
 
@@ -18,7 +18,7 @@ abbrev pub frontBytes : List ℕ → Bearing → ℕ
 frontBytes b unknown = length b
 frontBytes b (bears m) =
     cond (layout m .counted)
-    (cond (countIn m (byteAt b 2)) (bytesFor m (byteAt b 2)) (length b))
+    (cond (countIn m (countFrom m b)) (bytesFor m (countFrom m b)) (length b))
     (bytesFor m 0)
 
 unfoldable pub front : List ℕ → ℕ

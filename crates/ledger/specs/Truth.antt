@@ -3,11 +3,12 @@ use mathlib.Core.Bool.{Bool, not, _||_, cond}
 use mathlib.Core.List.{List}
 use Prim.Native.Nat.{ℕ}
 use lib.Dec.{eqb}
+use lib.ListN.{getD}
 use Rattle.ints.specs.Tests.{all, any}
 use Rattle.rows.specs.Form.{Form}
 use Rattle.rows.specs.Truth.{Integers, formTrue}
 use Rattle.ledger.specs.Literals.{formNamed, isNegated}
-use Rattle.ledger.specs.Ledger.{Line, premise, nthForm}
+use Rattle.ledger.specs.Ledger.{Line, premise, noLine, nthForm}
 
 unfoldable pub literalTrue : Integers → List Form → ℕ → Bool
 literalTrue ρ fs x = cond (isNegated x) (not (formTrue ρ (nthForm fs (formNamed x)))) (formTrue ρ (nthForm fs (formNamed x)))
@@ -18,6 +19,10 @@ lineTrue ρ fs x = any (literalTrue ρ fs) (x .literals)
 
 abbrev pub linesTrue : Integers → List Form → List Line → Bool
 linesTrue ρ fs ls = all (lineTrue ρ fs) ls
+
+-- those of these numbers are true
+abbrev pub chosenTrue : Integers → List Form → List Line → List ℕ → Bool
+chosenTrue ρ fs ls is = all (λ i. lineTrue ρ fs (getD ls i noLine)) is
 
 -- the line is true, if it is a premise
 abbrev pub asPremise : Integers → List Form → Line → Bool

@@ -1,23 +1,22 @@
--- The record at the front of a stream: all the bytes, where they are too few for a mark, bear none, or are fewer than the mark and the
--- count require; else the bytes that are required, which bear the same mark.
-use mathlib.Core.Path.{_≡_, refl, sym, _∙_}
+-- The record at the front of a stream: all the bytes, where they are too few for a mark, bear none, or their count is wrong or missing; else
+-- the bytes that its mark and its count require, which have the right shape where they are there.
+use mathlib.Core.Path.{_≡_, refl, sym, ap, _∙_}
 use mathlib.Core.Bool.{Bool, true, false, not, _||_, cond}
 use mathlib.Core.List.{List, [], _∷_}
-use Prim.Native.Nat.{ℕ, zero, suc, _≤_, _<_}
+use Prim.Native.Nat.{ℕ, zero, suc, _+_, _≤_, _<_}
 use native.Mathlib.Omega.{arith}
-use borrow.Author.Tests.{ne-eqb, lt-leb, le-leb}
-use lib.Dec.{eqb, leb}
-use lib.ListN.{length, take}
-use lib.Seq.{length-take-le, take-all, take-length}
+use native.Mathlib.Nat.{mul-zero, add-zero}
+use borrow.Author.Tests.{eq-eqb, ne-eqb, lt-ltb, le-ltb, lt-leb, le-leb}
+use lib.Dec.{eqb, ltb}
+use lib.ListN.{length, take, getD}
+use lib.Seq.{length-take-le, take-all, take-length, getD-take}
 use Rattle.ledger.specs.Record.{RecordMark, layout}
 use Rattle.ledger.specs.Checks.{countIn}
 use Rattle.ledger.specs.Apply.{pass, fail, finding}
-use Rattle.ledger.specs.Bytes.{byteAt, unknown, bears, markOf, bytesFor, shapeOf, shape}
+use Rattle.ledger.specs.Bytes.{unknown, bears, markOf, bytesFor, countFrom, shapeOf, shape}
 use Rattle.ledger.specs.Run.{frontBytes, front}
-use Rattle.session.specs.Answers.{findingOf}
-use Rattle.records.specs.declared.shape.Front.{Front}
-use Rattle.records.specs.Marks.{bearingOf, Misshapen, Fronted}
-use Rattle.records.proofs.LayoutLaws.{two-letters}
+use Rattle.ledger.proofs.LayoutLaws.{two-letters, count-behind, list-behind}
+use Rattle.records.specs.Marks.{OfMark, Whole, Misshapen, Requires}
 use Rattle.records.proofs.MarkLaws.{no-mark}
 
 -- ---- no mark
@@ -31,15 +30,6 @@ module _ (b : List ℕ) where
   unfolding front shape finding
   none-known h e = record { all = rw e (omega arith); failed = rw (le-leb 2 (length b) h, e) }
 
-pub all-taken : {b : List ℕ} {k : ℕ} → Misshapen b k → {r : Front} → r .size ≡ length b → findingOf (r .shape .verdict) ≡ fail k → Fronted b r
-all-taken {b} {k} w {r} e f =
-    let whole : take (r .size) b ≡ b = rw e (take-length b) in
-    record {
-      within = omega arith;
-      taken = whole ∙ sym (take-all (front b) b (w .all));
-      shaped = rw whole (record { verdict = f ∙ sym (w .failed); bearing = λ p. cc });
-    }
-
 -- ---- a mark
 
 same-mark : (n : ℕ) (b : List ℕ) → 2 ≤ n → markOf (take n b) ≡ markOf b
@@ -50,42 +40,84 @@ same-mark (suc (suc n)) [] h = refl
 same-mark (suc (suc n)) (x ∷ []) h = refl
 same-mark (suc (suc n)) (x ∷ y ∷ b) h = refl
 
-module _ (b : List ℕ) (m : RecordMark) where
-  cut-short : length b < frontBytes b (bears m) → finding (shapeOf b (bears m)) ≡ fail 3
-  unfolding finding
-  cut-short = go (layout m .counted) (leb 3 (length b)) (countIn m (byteAt b 2))
-    where
-      go : (counted three inside : Bool) → length b < cond counted (cond inside (bytesFor m (byteAt b 2)) (length b)) (bytesFor m 0)
-          → cond (not counted || three)
-          (cond (not counted || inside) (cond (eqb (length b) (bytesFor m (cond counted (byteAt b 2) 0))) pass (fail 3)) (fail 5))
-          (fail 3)
-          ≡ fail 3
-      go false three inside l = rw (ne-eqb (length b) (bytesFor m 0) (λ d. omega arith))
-      go true false inside l = refl
-      go true true true l = rw (ne-eqb (length b) (bytesFor m (byteAt b 2)) (λ d. omega arith))
-      go true true false l = absurd (omega arith)
+module _ (b : List ℕ) (m : RecordMark) (e : markOf b ≡ bears m) (h : 2 ≤ length b) where
+  -- ---- no count
 
-  module _ (h : 2 ≤ length b) where
-    two-required : 2 ≤ frontBytes b (bears m)
-    two-required = go (layout m .counted) (countIn m (byteAt b 2))
+  module _ (u : layout m .counted ≡ false) where
+    fixed-short : length b < layout m .bytes → finding (shape b) ≡ fail 3
+    unfolding shape finding
+    fixed-short l = simp (le-leb 2 (length b) h, e, u, mul-zero, add-zero, ne-eqb (length b) (layout m .bytes) (λ d. omega arith))
+
+    fixed-right : layout m .bytes ≤ length b → finding (shape (take (layout m .bytes) b)) ≡ pass
+    unfolding shape finding
+    fixed-right l =
+        let long = length-take-le (layout m .bytes) b l in
+        let marked = same-mark (layout m .bytes) b (two-letters m) ∙ e in
+        simp (long, le-leb 2 (layout m .bytes) (two-letters m), marked, u, mul-zero, add-zero, eq-eqb (layout m .bytes) (layout m .bytes) refl)
+
+    pub requires-fixed : Requires b m (layout m .bytes)
+    unfolding front
+    requires-fixed =
+        record { known = e; two = two-letters m; front-is = simp (e, u, mul-zero, add-zero); short = fixed-short; right = fixed-right }
+
+  -- ---- a count
+
+  module _ (u : layout m .counted ≡ true) where
+    pub count-missing : length b ≤ layout m .place → Misshapen b 3
+    unfolding front shape finding
+    count-missing l =
+        record {
+          all = simp (e, u) (missing (countIn m (countFrom m b)));
+          failed = simp (le-leb 2 (length b) h, e, u, le-ltb (layout m .place) (length b) l);
+        }
       where
-        go : (counted inside : Bool) → 2 ≤ cond counted (cond inside (bytesFor m (byteAt b 2)) (length b)) (bytesFor m 0)
-        go false inside = omega (arith, two-letters m)
-        go true false = h
-        go true true = omega (arith, two-letters m)
+        missing : (inside : Bool) → length b ≤ cond inside (bytesFor m (countFrom m b)) (length b)
+        missing true = omega (arith, list-behind m u)
+        missing false = omega arith
 
-    pub two-taken : (n : ℕ) → n ≡ frontBytes b (bears m) → n ≤ length b → 2 ≤ length (take n b)
-    two-taken n s l = rw (length-take-le n b l, s) two-required
-
-    module _ (e : markOf b ≡ bears m) where
-      pub fewer : length b < frontBytes b (bears m) → Misshapen b 3
+    module _ (there : layout m .place < length b) where
+      pub count-wrong : countIn m (countFrom m b) ≡ false → Misshapen b 5
       unfolding front shape finding
-      fewer l = record { all = rw e (omega arith); failed = rw (le-leb 2 (length b) h, e) (cut-short l) }
+      count-wrong i =
+          record { all = simp (e, u, i) (omega arith); failed = simp (le-leb 2 (length b) h, e, u, lt-ltb (layout m .place) (length b) there, i) }
 
-      pub required-taken : {r : Front} → r .size ≡ frontBytes b (bears m) → r .size ≤ length b
-          → findingOf (r .shape .verdict) ≡ finding (shapeOf (take (r .size) b) (bears m)) → bearingOf (r .shape .bearing) ≡ bears m → Fronted b r
-      unfolding front shape finding
-      required-taken {r} s l v k =
-          let marked = same-mark (r .size) b (rw s two-required) ∙ e in
-          let enough = le-leb 2 (length (take (r .size) b)) (two-taken (r .size) s l) in
-          record { within = l; taken = rw (s, e); shaped = record { verdict = rw (enough, marked) v; bearing = λ p. k ∙ sym marked } }
+      module _ (i : countIn m (countFrom m b) ≡ true) where
+        required : ℕ
+        required = bytesFor m (countFrom m b)
+
+        counted-short : length b < required → finding (shape b) ≡ fail 3
+        unfolding shape finding required
+        counted-short l =
+            simp (le-leb 2 (length b) h, e, u, lt-ltb (layout m .place) (length b) there, i, ne-eqb (length b) (bytesFor m (countFrom m b)) (λ d. omega arith))
+
+        behind : layout m .place < required
+        unfolding required
+        behind = omega (arith, list-behind m u)
+
+        counted-right : required ≤ length b → finding (shape (take required b)) ≡ pass
+        unfolding shape finding required
+        counted-right l =
+            let long = length-take-le required b l in
+            let two = count-behind m u in
+            let marked = same-mark required b (omega (arith, behind)) ∙ e in
+            let same = getD-take required b (layout m .place) 0 behind in
+            simp
+            (long, le-leb 2 required (omega (arith, behind)), marked, u, same, lt-ltb (layout m .place) required behind, i, eq-eqb required required refl)
+
+        pub requires-counted : Requires b m (bytesFor m (countFrom m b))
+        unfolding front required
+        requires-counted = record { known = e; two = omega (arith, two-letters m); front-is = simp (e, u, i); short = counted-short; right = counted-right }
+
+-- ---- the bytes that are required
+
+module _ {b : List ℕ} {m : RecordMark} {required : ℕ} (r : Requires b m required) where
+  pub not-there : length b < required → Misshapen b 3
+  not-there l = record { all = omega (arith, r .front-is); failed = r .short l }
+
+  pub there-whole : required ≤ length b → Whole b m required
+  there-whole l =
+      record {
+        within = l;
+        taken = rw (r .front-is);
+        record-of = record { shaped = r .right l; bearing = same-mark required b (r .two) ∙ r .known };
+      }

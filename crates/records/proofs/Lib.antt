@@ -1,6 +1,5 @@
 pub mod MarkLaws
 pub mod SignedLaws
-pub mod LayoutLaws
 pub mod EachLaws
 pub mod WholeLaws
 pub mod FrontLaws

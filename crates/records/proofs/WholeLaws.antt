@@ -8,9 +8,10 @@ use lib.ListN.{length}
 use Rattle.ledger.specs.Record.{RecordMark, layout}
 use Rattle.ledger.specs.Checks.{Passed}
 use Rattle.ledger.specs.Apply.{pass, finding}
-use Rattle.ledger.specs.Bytes.{byteAt, bears, markOf, bytesFor, shapeOf, shape}
+use Rattle.ledger.specs.Bytes.{bears, markOf, bytesFor, countFrom, shapeOf, shape}
 use Rattle.ledger.proofs.Findings.{pass→passed}
-use Rattle.records.specs.Fields.{Whole}
+use Rattle.ledger.proofs.LayoutLaws.{count-least, count-most, list-behind}
+use Rattle.records.specs.Fields.{Listed}
 
 module _ (b : List ℕ) (m : RecordMark) (e : markOf b ≡ bears m) (p : finding (shape b) ≡ pass) where
   of-mark : Passed (shapeOf b (bears m))
@@ -20,7 +21,11 @@ module _ (b : List ℕ) (m : RecordMark) (e : markOf b ≡ bears m) (p : finding
   pub fixed-whole : layout m .counted ≡ false → length b ≡ bytesFor m 0
   fixed-whole u = eqb→eq (length b) (bytesFor m 0) ((simp u at of-mark) .1 .1 .1 .0)
 
-  pub counted-whole : layout m .counted ≡ true → Whole m b
+  pub counted-whole : layout m .counted ≡ true → Listed (layout m .place) (layout m .each) (layout m .least) (layout m .most) b
   counted-whole u =
       let q = simp u at of-mark in
-      record { count = q .1 .1 .0; whole = eqb→eq (length b) (bytesFor m (byteAt b 2)) (q .1 .1 .1 .0) }
+      record {
+        some = count-least m (countFrom m b) (q .1 .1 .0);
+        few = count-most m (countFrom m b) (q .1 .1 .0);
+        long = rw (← list-behind m u) (eqb→eq (length b) (bytesFor m (countFrom m b)) (q .1 .1 .1 .0));
+      }

@@ -1,29 +1,27 @@
--- Fields that are read from bytes into arrays.
+-- Fields that are read from bytes into what is lent.
 use mathlib.Core.Path.{_≡_}
 use mathlib.Core.List.{List}
-use Prim.Native.Nat.{ℕ, _≤_}
-use lib.Dec.{T}
+use Prim.Native.Nat.{ℕ, _+_, _*_, _≤_}
+use lib.IntN.{ℤ}
 use lib.ListN.{length, take}
 use Rattle.rows.specs.Limits.{mostTerms}
 use Rattle.rows.specs.Sum.{terms}
 use Rattle.ledger.specs.Limits.{longestLine}
-use Rattle.ledger.specs.Record.{RecordMark}
-use Rattle.ledger.specs.Checks.{countIn}
-use Rattle.ledger.specs.Bytes.{byteAt, bytesFor, literalsFrom, termsFrom}
-use Rattle.records.specs.declared.fields.Literals.{Literals}
-use Rattle.records.specs.declared.fields.Terms.{Terms}
+use Rattle.ledger.specs.Bytes.{byteAt, literalsBehind, termsBehind}
 
--- b has a count that is right for the mark, and the length that they require
-pub record Whole (m : RecordMark) (b : List ℕ) : Type 0 where
-  pub count : T (countIn m (byteAt b 2))
-  pub whole : length b ≡ bytesFor m (byteAt b 2)
+-- b has at this place a count in this range, and behind it as many bytes as that needs
+pub record Listed (place width least most : ℕ) (b : List ℕ) : Type 0 where
+  pub some : least ≤ byteAt b place
+  pub few : byteAt b place ≤ most
+  pub long : length b ≡ place + 1 + width * byteAt b place
 
--- the array holds the literals, and then anything
-pub record LiteralsRead (b : List ℕ) (r : Literals) : Type 0 where
-  pub few : r .count ≤ longestLine
-  pub read : take (r .count) (r .cells) ≡ literalsFrom b
+-- the cells hold so many literals, and then anything
+pub record LiteralsRead (place : ℕ) (b : List ℕ) (count : ℕ) (cells : List ℕ) : Type 0 where
+  pub few : count ≤ longestLine
+  pub read : take count cells ≡ literalsBehind place b
 
-pub record TermsRead (b : List ℕ) (r : Terms) : Type 0 where
-  pub few : r .count ≤ mostTerms
-  pub count : r .count ≡ byteAt b 2
-  pub read : terms (take (r .count) (r .forms)) (take (r .count) (r .multipliers)) ≡ termsFrom b
+-- the two lists hold so many terms, and then anything
+pub record TermsRead (place : ℕ) (b : List ℕ) (k : ℕ) (forms : List ℕ) (multipliers : List ℤ) : Type 0 where
+  pub few : k ≤ mostTerms
+  pub count : k ≡ byteAt b place
+  pub read : terms (take k forms) (take k multipliers) ≡ termsBehind place b

@@ -1,32 +1,39 @@
 -- What the code's marks and layouts are, in the ledger's terms.
 use mathlib.Core.Path.{_≡_}
 use mathlib.Core.List.{List}
-use Prim.Native.Nat.{ℕ, _≤_}
+use Prim.Native.Nat.{ℕ, _≤_, _<_}
 use lib.ListN.{length, take}
 use Rattle.ledger.specs.Record as ledger
 use Rattle.ledger.specs.Apply.{pass, fail, finding}
 use Rattle.ledger.specs.Bytes as bytes
 use Rattle.ledger.specs.Run.{front}
-use Rattle.session.specs.Answers.{findingOf}
+use Rattle.session.specs.Answers.{numberOf}
 use Rattle.records.specs.declared.marks.RecordMark.{RecordMark}
-use Rattle.records.specs.declared.marks.RecordMark.the-variants.{Fm, Pm, Rs, Fk, To, Tr, Eq, Ti, Wk, Cl, Op, Wd}
+use Rattle.records.specs.declared.marks.RecordMark.the-variants.{Rule, Op, Wd}
+use Rattle.records.specs.declared.marks.RuleMark.{RuleMark}
+use Rattle.records.specs.declared.marks.RuleMark.the-variants.{Fm, Pm, Rs, Fk, To, Tr, Eq, Ti, Wk, Cl}
 use Rattle.records.specs.declared.marks.Bearing.{Bearing}
 use Rattle.records.specs.declared.marks.Bearing.the-variants.{Unknown, Bears}
 use Rattle.records.specs.declared.marks.Layout.{Layout}
 use Rattle.records.specs.declared.shape.Shape.{Shape}
+use Rattle.records.specs.declared.shape.Shape.the-variants as Shapes
 use Rattle.records.specs.declared.shape.Front.{Front}
+use Rattle.records.specs.declared.shape.Front.the-variants as Fronts
+
+abbrev pub ruleMarkOf : RuleMark → ledger.RuleMark
+ruleMarkOf Fm = ledger.fm
+ruleMarkOf Pm = ledger.pm
+ruleMarkOf Rs = ledger.rs
+ruleMarkOf Fk = ledger.fk
+ruleMarkOf To = ledger.to
+ruleMarkOf Tr = ledger.tr
+ruleMarkOf Eq = ledger.eq
+ruleMarkOf Ti = ledger.ti
+ruleMarkOf Wk = ledger.wk
+ruleMarkOf Cl = ledger.cl
 
 abbrev pub recordMarkOf : RecordMark → ledger.RecordMark
-recordMarkOf Fm = ledger.fm
-recordMarkOf Pm = ledger.pm
-recordMarkOf Rs = ledger.rs
-recordMarkOf Fk = ledger.fk
-recordMarkOf To = ledger.to
-recordMarkOf Tr = ledger.tr
-recordMarkOf Eq = ledger.eq
-recordMarkOf Ti = ledger.ti
-recordMarkOf Wk = ledger.wk
-recordMarkOf Cl = ledger.cl
+recordMarkOf (Rule m) = ledger.ofRule (ruleMarkOf m)
 recordMarkOf Op = ledger.op
 recordMarkOf Wd = ledger.wd
 
@@ -40,24 +47,43 @@ layoutOf l =
       first = l .first;
       second = l .second;
       counted = l .counted;
+      place = l .place;
       least = l .least;
       most = l .most;
       bytes = l .bytes;
       each = l .each;
     }
 
--- r is what the shape of the bytes b is found to be, and where it is right, the mark that they bear
-pub record Shaped (b : List ℕ) (r : Shape) : Type 0 where
-  pub verdict : findingOf (r .verdict) ≡ finding (bytes.shape b)
-  pub bearing : findingOf (r .verdict) ≡ pass → bearingOf (r .bearing) ≡ bytes.markOf b
+-- bytes of the right shape that bear the mark
+pub record OfMark (b : List ℕ) (m : ledger.RecordMark) : Type 0 where
+  pub shaped : finding (bytes.shape b) ≡ pass
+  pub bearing : bytes.markOf b ≡ bytes.bears m
 
--- r is the front record of the bytes b: the bytes that it takes of them, and its shape
-pub record Fronted (b : List ℕ) (r : Front) : Type 0 where
-  pub within : r .size ≤ length b
-  pub taken : take (r .size) b ≡ take (front b) b
-  pub shaped : Shaped (take (r .size) b) (r .shape)
+-- r is what the shape of the bytes b is found to be, and where it is right, the mark that they bear
+abbrev pub Shaped : List ℕ → Shape → Type 0
+Shaped b (Shapes.Wrong why) = finding (bytes.shape b) ≡ fail (numberOf why)
+Shaped b (Shapes.Right m) = OfMark b (recordMarkOf m)
+
+-- the front record of the bytes b bears the mark, and has so many bytes of them
+pub record Whole (b : List ℕ) (m : ledger.RecordMark) (size : ℕ) : Type 0 where
+  pub within : size ≤ length b
+  pub taken : take size b ≡ take (front b) b
+  pub record-of : OfMark (take size b) m
 
 -- the front record of the bytes b is all of them, and its shape fails by the number k
 pub record Misshapen (b : List ℕ) (k : ℕ) : Type 0 where
   pub all : length b ≤ front b
   pub failed : finding (bytes.shape b) ≡ fail k
+
+-- r is the front record of the bytes b
+abbrev pub Fronted : List ℕ → Front → Type 0
+Fronted b (Fronts.Wrong why) = Misshapen b (numberOf why)
+Fronted b (Fronts.Record m size) = Whole b (recordMarkOf m) size
+
+-- so many bytes are required of a front record with this mark, which has the right shape where they are there
+pub record Requires (b : List ℕ) (m : ledger.RecordMark) (required : ℕ) : Type 0 where
+  pub known : bytes.markOf b ≡ bytes.bears m
+  pub two : 2 ≤ required
+  pub front-is : front b ≡ required
+  pub short : length b < required → finding (bytes.shape b) ≡ fail 3
+  pub right : required ≤ length b → finding (bytes.shape (take required b)) ≡ pass

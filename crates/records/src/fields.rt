@@ -1,71 +1,57 @@
-// The fields of a record whose shape is right, by value.
+// The fields of a record whose shape is right, to what is lent for them.
 ghost use mathlib.Core.Path.{_≡_};
+ghost use Prim.Native.Nat.{_+_};
 ghost use lib.ListN.{length};
-ghost use Rattle.ledger.specs.Record.{fm, pm, fk};
-ghost use Rattle.ledger.specs.Bytes.{formFrom, bytesFor};
+ghost use Rattle.ledger.specs.Limits.{carried, longestLine};
+ghost use Rattle.ledger.specs.Record.{fm, ruleLayout};
+ghost use Rattle.ledger.specs.Bytes.{formFrom};
+ghost use Rattle.rows.specs.Limits.{mostTerms};
 ghost use Rattle.rows.specs.Form.{cellsOf};
-ghost use Rattle.records.specs.Fields.{Whole, LiteralsRead, TermsRead};
+ghost use Rattle.records.specs.Fields.{Listed, LiteralsRead, TermsRead};
 use session::state::Session;
 
-// The literals of PM, or any ascending list that a line may have.
-pub struct Literals {
-    pub cells: [u16; Session::LONGEST_LINE],
-    pub count: usize,
-}
-
-// The terms of FK and CL.
-pub struct Terms {
-    pub forms: [u16; rows::MOST_TERMS],
-    pub multipliers: [i32; rows::MOST_TERMS],
-    pub count: usize,
-}
-
 // The form of FM, as the cells that it would take.
-pub fn read_form(bytes: &[u8]) -> [i32; rows::FORM_CELLS]
-    requires { ⌜ length (now bytes) ≡ bytesFor fm 0 ⌝ }
-    ensures { λ r. ⌜ r ≡ cellsOf (formFrom (now (bytes .entry))) ⌝ }
+pub fn read_form(cells: &mut [i32], bytes: &[u8])
+    requires { ⌜ (length (now cells) ≡ carried + 3) × (length (now bytes) ≡ ruleLayout fm .bytes) ⌝ }
+    ensures { λ _. ⌜ now (cells .exit) ≡ cellsOf (formFrom (now (bytes .entry))) ⌝ }
 {
-    let mut cells = [0i32; rows::FORM_CELLS];
     cells[0] = bytes[2] as i32;
     cells[1] = crate::numbers::u16_at(bytes, 3) as i32;
     let mut i: usize = 0;
-    while i < rows::ROW_CELLS {
+    while i < Session::ROW_CELLS {
         cells[2 + i] = crate::numbers::i32_at(bytes, 5 + 4 * i);
         i += 1;
     }
-    cells
 }
 
-pub fn read_literals(bytes: &[u8]) -> Literals
-    requires { ⌜ Whole pm (now bytes) ⌝ }
-    ensures { λ r. ⌜ LiteralsRead (now (bytes .entry)) r ⌝ }
+// The literals behind the count at this place, to the front of cells; and how many they are.
+pub fn read_literals(cells: &mut [u16], bytes: &[u8], place: usize) -> usize
+    requires { ⌜ (length (now cells) ≡ longestLine) × Listed place 2 0 longestLine (now bytes) ⌝ }
+    ensures { λ r. ⌜ LiteralsRead place (now (bytes .entry)) r (now (cells .exit)) ⌝ }
 {
-    let count = bytes[2] as usize;
-    let mut cells = [0u16; Session::LONGEST_LINE];
+    let count = bytes[place] as usize;
+    let from = place + 1;
     let mut i: usize = 0;
     while i < count {
-        cells[i] = crate::numbers::u16_at(bytes, 3 + 2 * i);
+        cells[i] = crate::numbers::u16_at(bytes, from + 2 * i);
         i += 1;
     }
-    Literals { cells, count }
+    count
 }
 
-pub fn read_terms(bytes: &[u8]) -> Terms
-    requires { ⌜ Whole fk (now bytes) ⌝ }
-    ensures { λ r. ⌜ TermsRead (now (bytes .entry)) r ⌝ }
+// The terms behind the count at this place, to the front of the two lists; and how many they are.
+pub fn read_terms(forms: &mut [u16], multipliers: &mut [i32], bytes: &[u8], place: usize) -> usize
+    requires { ⌜ (length (now forms) ≡ mostTerms) × (length (now multipliers) ≡ mostTerms) × Listed place 6 1 mostTerms (now bytes) ⌝ }
+    ensures { λ r. ⌜ TermsRead place (now (bytes .entry)) r (now (forms .exit)) (now (multipliers .exit)) ⌝ }
 {
-    let count = bytes[2] as usize;
-    let mut forms = [0u16; rows::MOST_TERMS];
-    let mut multipliers = [0i32; rows::MOST_TERMS];
+    let count = bytes[place] as usize;
+    let first = place + 1;
+    let second = place + 3;
     let mut i: usize = 0;
     while i < count {
-        forms[i] = crate::numbers::u16_at(bytes, 3 + 6 * i);
-        multipliers[i] = crate::numbers::i32_at(bytes, 5 + 6 * i);
+        forms[i] = crate::numbers::u16_at(bytes, first + 6 * i);
+        multipliers[i] = crate::numbers::i32_at(bytes, second + 6 * i);
         i += 1;
     }
-    Terms {
-        forms,
-        multipliers,
-        count,
-    }
+    count
 }

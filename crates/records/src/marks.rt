@@ -1,12 +1,14 @@
 // The marks of records, and in one table how a record of each looks in bytes.
 ghost use mathlib.Core.Path.{_≡_};
-ghost use Prim.Native.Nat.{_≤_};
+ghost use Prim.Native.Nat.{_<_, _≤_};
 ghost use lib.ListN.{length};
-ghost use Rattle.ledger.specs.Record.{layout};
+ghost use Rattle.ledger.specs.Record.{ruleLayout, layout};
 ghost use Rattle.ledger.specs.Bytes.{hasLetters, markOf};
-ghost use Rattle.records.specs.Marks.{recordMarkOf, bearingOf, layoutOf};
+ghost use Rattle.records.specs.Marks.{ruleMarkOf, recordMarkOf, bearingOf, layoutOf};
+use session::state::Session;
 
-pub enum RecordMark {
+// The marks of the rules.
+pub enum RuleMark {
     Fm,
     Pm,
     Rs,
@@ -17,6 +19,10 @@ pub enum RecordMark {
     Ti,
     Wk,
     Cl,
+}
+
+pub enum RecordMark {
+    Rule(RuleMark),
     Op,
     Wd,
 }
@@ -26,13 +32,18 @@ pub enum Bearing {
     Bears(RecordMark),
 }
 
-// Two letters; a count with its range, or none; and the bytes: all of them at count 0, and how many more for each that is counted.
+// The place right behind the two letters.
+pub const BEHIND_LETTERS: usize = 2;
+
+// Two letters; a count with its place and its range, or none; and the bytes: all of them at count 0, and how many more for each that is
+// counted.
 pub struct Layout {
     pub first: u8,
     pub second: u8,
     pub counted: bool,
+    pub place: usize,
     pub least: u8,
-    pub most: u8,
+    pub most: usize,
     pub bytes: usize,
     pub each: usize,
 }
@@ -44,6 +55,7 @@ fn fixed(first: u8, second: u8, bytes: usize) -> Layout
         first,
         second,
         counted: false,
+        place: 0,
         least: 0,
         most: 0,
         bytes,
@@ -51,35 +63,45 @@ fn fixed(first: u8, second: u8, bytes: usize) -> Layout
     }
 }
 
-fn counting(first: u8, second: u8, least: u8, most: u8, each: usize) -> Layout
-    ensures { λ r. ⌜ layoutOf r ≡ Rattle.ledger.specs.Record.counting first second least most each ⌝ }
+fn counting(first: u8, second: u8, place: usize, least: u8, most: usize, each: usize) -> Layout
+    requires { ⌜ place < 256 ⌝ }
+    ensures { λ r. ⌜ layoutOf r ≡ Rattle.ledger.specs.Record.counting first second place least most each ⌝ }
 {
     Layout {
         first,
         second,
         counted: true,
+        place,
         least,
         most,
-        bytes: 3,
+        bytes: place + 1,
         each,
     }
 }
 
 // The table.
+pub fn rule_layout(m: RuleMark) -> Layout
+    ensures { λ r. ⌜ layoutOf r ≡ ruleLayout (ruleMarkOf m) ⌝ }
+{
+    match m {
+        RuleMark::Fm => fixed(b'F', b'M', 57),
+        RuleMark::Pm => counting(b'P', b'M', BEHIND_LETTERS, 0, Session::LONGEST_LINE, 2),
+        RuleMark::Rs => fixed(b'R', b'S', 8),
+        RuleMark::Fk => counting(b'F', b'K', BEHIND_LETTERS, 1, Session::MOST_TERMS, 6),
+        RuleMark::To => fixed(b'T', b'O', 6),
+        RuleMark::Tr => fixed(b'T', b'R', 8),
+        RuleMark::Eq => fixed(b'E', b'Q', 6),
+        RuleMark::Ti => fixed(b'T', b'I', 10),
+        RuleMark::Wk => fixed(b'W', b'K', 6),
+        RuleMark::Cl => counting(b'C', b'L', BEHIND_LETTERS, 1, Session::MOST_TERMS, 6),
+    }
+}
+
 pub fn layout_of(m: RecordMark) -> Layout
     ensures { λ r. ⌜ layoutOf r ≡ layout (recordMarkOf m) ⌝ }
 {
     match m {
-        RecordMark::Fm => fixed(b'F', b'M', 57),
-        RecordMark::Pm => counting(b'P', b'M', 0, 32, 2),
-        RecordMark::Rs => fixed(b'R', b'S', 8),
-        RecordMark::Fk => counting(b'F', b'K', 1, 32, 6),
-        RecordMark::To => fixed(b'T', b'O', 6),
-        RecordMark::Tr => fixed(b'T', b'R', 8),
-        RecordMark::Eq => fixed(b'E', b'Q', 6),
-        RecordMark::Ti => fixed(b'T', b'I', 10),
-        RecordMark::Wk => fixed(b'W', b'K', 6),
-        RecordMark::Cl => counting(b'C', b'L', 1, 32, 6),
+        RecordMark::Rule(r) => rule_layout(r),
         RecordMark::Op => fixed(b'O', b'P', 2),
         RecordMark::Wd => fixed(b'W', b'D', 2),
     }
@@ -103,16 +125,16 @@ pub fn mark_of(bytes: &[u8]) -> Bearing
     ensures { λ r. ⌜ bearingOf r ≡ markOf (now (bytes .entry)) ⌝ }
 {
     let marks = [
-        RecordMark::Fm,
-        RecordMark::Pm,
-        RecordMark::Rs,
-        RecordMark::Fk,
-        RecordMark::To,
-        RecordMark::Tr,
-        RecordMark::Eq,
-        RecordMark::Ti,
-        RecordMark::Wk,
-        RecordMark::Cl,
+        RecordMark::Rule(RuleMark::Fm),
+        RecordMark::Rule(RuleMark::Pm),
+        RecordMark::Rule(RuleMark::Rs),
+        RecordMark::Rule(RuleMark::Fk),
+        RecordMark::Rule(RuleMark::To),
+        RecordMark::Rule(RuleMark::Tr),
+        RecordMark::Rule(RuleMark::Eq),
+        RecordMark::Rule(RuleMark::Ti),
+        RecordMark::Rule(RuleMark::Wk),
+        RecordMark::Rule(RuleMark::Cl),
         RecordMark::Op,
         RecordMark::Wd,
     ];

@@ -1,13 +1,12 @@
-// The shape of a record: 3, 4, 3, 5, 3. And the record at the front of a stream: how many bytes it has, and their shape.
+// The shape of a record: 3, 4, 3, 5, 3. And the record at the front of a stream, with the bytes that its mark and its count require.
 ghost use mathlib.Core.Path.{_≡_};
 ghost use Prim.Native.Nat.{_≤_};
 ghost use lib.ListN.{length};
 ghost use Rattle.ledger.specs.Checks.{countIn};
 ghost use Rattle.ledger.specs.Apply.{finding};
 ghost use Rattle.ledger.specs.Bytes.{shapeOf, bears, markOf, bytesFor};
-ghost use Rattle.ledger.specs.Run.{frontBytes};
-ghost use Rattle.session.specs.Answers.{numberOf, findingOf};
-ghost use Rattle.records.specs.Marks.{recordMarkOf, Shaped, Misshapen, Fronted};
+ghost use Rattle.session.specs.Answers.{findingOf};
+ghost use Rattle.records.specs.Marks.{recordMarkOf, Shaped, Requires, Fronted};
 use crate::marks::Bearing;
 use crate::marks::RecordMark;
 use session::answers::Refusal;
@@ -29,7 +28,7 @@ fn count_in(m: RecordMark, count: u8) -> bool
     if count < l.least {
         return false;
     }
-    count <= l.most
+    count as usize <= l.most
 }
 
 // What is tested where the mark is known.
@@ -44,10 +43,11 @@ fn shape_of(bytes: &[u8], m: RecordMark) -> Verdict
         }
         return Verdict::Pass;
     }
-    if bytes.len() < 3 {
+    let place = l.place;
+    if bytes.len() <= place {
         return Verdict::Fail(Refusal::WrongLength);
     }
-    let count = bytes[2];
+    let count = bytes[place];
     if !count_in(m, count) {
         return Verdict::Fail(Refusal::CountOutside);
     }
@@ -57,87 +57,63 @@ fn shape_of(bytes: &[u8], m: RecordMark) -> Verdict
     Verdict::Pass
 }
 
-// What the bytes bear, and whether their shape is right.
-pub struct Shape {
-    pub verdict: Verdict,
-    pub bearing: Bearing,
+// Bytes of a wrong shape, or of the right one, with the mark that they bear.
+pub enum Shape {
+    Wrong(Refusal),
+    Right(RecordMark),
 }
 
 pub fn read_shape(bytes: &[u8]) -> Shape
     ensures { λ r. ⌜ Shaped (now (bytes .entry)) r ⌝ }
 {
     if bytes.len() < 2 {
-        return Shape {
-            verdict: Verdict::Fail(Refusal::WrongLength),
-            bearing: Bearing::Unknown,
-        };
+        return Shape::Wrong(Refusal::WrongLength);
     }
-    let bearing = crate::marks::mark_of(bytes);
-    match bearing {
-        Bearing::Unknown => Shape {
-            verdict: Verdict::Fail(Refusal::UnknownMark),
-            bearing,
-        },
-        Bearing::Bears(m) => Shape {
-            verdict: shape_of(bytes, m),
-            bearing,
+    match crate::marks::mark_of(bytes) {
+        Bearing::Unknown => Shape::Wrong(Refusal::UnknownMark),
+        Bearing::Bears(m) => match shape_of(bytes, m) {
+            Verdict::Pass => Shape::Right(m),
+            Verdict::Fail(why) => Shape::Wrong(why),
         },
     }
 }
 
-// How many bytes the mark and the count of the record at the front of a stream require: all that are left where the count does not tell.
-fn front_of(bytes: &[u8], m: RecordMark) -> usize
-    requires { ⌜ 2 ≤ length (now bytes) ⌝ }
-    ensures { λ r. ⌜ r ≡ frontBytes (now (bytes .entry)) (bears (recordMarkOf m)) ⌝ }
-{
-    let l = crate::marks::layout_of(m);
-    if !l.counted {
-        return l.bytes;
-    }
-    let count = crate::numbers::byte_at(bytes, 2);
-    if count_in(m, count) {
-        return bytes_for(m, count);
-    }
-    bytes.len()
+// The record at the front of a stream: its mark and how many bytes it has, or that all bytes are a record of a wrong shape.
+pub enum Front {
+    Wrong(Refusal),
+    Record(RecordMark, usize),
 }
 
-// The record at the front of a stream: how many bytes of the stream it has, and their shape.
-pub struct Front {
-    pub size: usize,
-    pub shape: Shape,
-}
-
-// All the bytes, whose shape is wrong.
-fn misshapen(bytes: &[u8], refusal: Refusal) -> Front
-    requires { ⌜ Misshapen (now bytes) (numberOf refusal) ⌝ }
+// The front record of so many bytes, if they are there.
+fn whole_front(bytes: &[u8], m: RecordMark, required: usize) -> Front
+    requires { ⌜ Requires (now bytes) (recordMarkOf m) required ⌝ }
     ensures { λ r. ⌜ Fronted (now (bytes .entry)) r ⌝ }
 {
-    Front {
-        size: bytes.len(),
-        shape: Shape {
-            verdict: Verdict::Fail(refusal),
-            bearing: Bearing::Unknown,
-        },
+    if bytes.len() < required {
+        return Front::Wrong(Refusal::WrongLength);
     }
+    Front::Record(m, required)
 }
 
-// The front record where its mark is known.
+// The front record where its mark is known. It has the right shape by the way its bytes are counted.
 fn marked_front(bytes: &[u8], m: RecordMark) -> Front
     requires { ⌜ 2 ≤ length (now bytes) ⌝ }
     requires { ⌜ markOf (now bytes) ≡ bears (recordMarkOf m) ⌝ }
     ensures { λ r. ⌜ Fronted (now (bytes .entry)) r ⌝ }
 {
-    let required = front_of(bytes, m);
-    if bytes.len() < required {
-        return misshapen(bytes, Refusal::WrongLength);
+    let l = crate::marks::layout_of(m);
+    if !l.counted {
+        return whole_front(bytes, m, l.bytes);
     }
-    Front {
-        size: required,
-        shape: Shape {
-            verdict: shape_of(&bytes[0..required], m),
-            bearing: Bearing::Bears(m),
-        },
+    let place = l.place;
+    if bytes.len() <= place {
+        return Front::Wrong(Refusal::WrongLength);
     }
+    let count = bytes[place];
+    if !count_in(m, count) {
+        return Front::Wrong(Refusal::CountOutside);
+    }
+    whole_front(bytes, m, bytes_for(m, count))
 }
 
 // The front record of any bytes: its mark is found once.
@@ -145,11 +121,10 @@ pub fn read_front(bytes: &[u8]) -> Front
     ensures { λ r. ⌜ Fronted (now (bytes .entry)) r ⌝ }
 {
     if bytes.len() < 2 {
-        return misshapen(bytes, Refusal::WrongLength);
+        return Front::Wrong(Refusal::WrongLength);
     }
-    let bearing = crate::marks::mark_of(bytes);
-    match bearing {
-        Bearing::Unknown => misshapen(bytes, Refusal::UnknownMark),
+    match crate::marks::mark_of(bytes) {
+        Bearing::Unknown => Front::Wrong(Refusal::UnknownMark),
         Bearing::Bears(m) => marked_front(bytes, m),
     }
 }

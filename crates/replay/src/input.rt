@@ -1,12 +1,19 @@
 // A file that is read in large pieces, however it is cut into reads.
-ghost use Prim.Native.Nat.{_≤_};
-ghost use lib.ListN.{length};
 
 // What a file still has: more bytes, none, or some that cannot be read.
 pub enum Left {
     More,
     Nothing,
     Unreadable,
+}
+
+// Whether the bytes that were read are the file's last.
+pub fn is_end(left: Left) -> bool {
+    match left {
+        Left::More => false,
+        Left::Nothing => true,
+        Left::Unreadable => false,
+    }
 }
 
 // How many bytes of the buffer are filled, and what is left of the file.
@@ -24,9 +31,7 @@ fn after(got: isize) -> Left {
 }
 
 // Fills the buffer behind the bytes that are held, until it is full or the file has no more.
-pub fn fill(fd: i32, buffer: &mut [u8], held: usize) -> Filled
-    ensures { λ r. ⌜ r .count ≤ length (now (buffer .exit)) ⌝ }
-{
+pub fn fill(fd: i32, buffer: &mut [u8], held: usize) -> Filled {
     let most = buffer.len();
     if most < held {
         return Filled {
@@ -51,19 +56,4 @@ pub fn fill(fd: i32, buffer: &mut [u8], held: usize) -> Filled
         count,
         left: Left::More,
     }
-}
-
-// Moves the bytes from one place up to another to the front, and says how many they are.
-pub fn keep(buffer: &mut [u8], from: usize, to: usize) -> usize
-    requires { ⌜ to ≤ length (now buffer) ⌝ }
-    ensures { λ r. ⌜ r ≤ length (now (buffer .exit)) ⌝ }
-{
-    let mut held: usize = 0;
-    let mut i = from;
-    while i < to {
-        buffer[held] = buffer[i];
-        held += 1;
-        i += 1;
-    }
-    held
 }

@@ -3,12 +3,12 @@ use mathlib.Core.Path.{_≡_, refl, sym, _∙_}
 use mathlib.Core.Bool.{Bool, true, false}
 use mathlib.Core.List.{List, [], _∷_}
 use Prim.Native.Nat.{ℕ}
+use lib.IntN.{ℤ}
 use lib.ListN.{drop}
 use Rattle.ledger.specs.Record.{Rule}
 use Rattle.ledger.specs.Checks.{Check, _else_, tests}
-use Rattle.ledger.specs.Apply.{pass, fail, finding}
-use Rattle.session.specs.declared.state.Session.{Session}
-use Rattle.session.specs.Cells.{Tables, ledgerOf}
+use Rattle.ledger.specs.Apply.{Finding, pass, fail, finding}
+use Rattle.rules.specs.Read.{formsIn}
 
 -- of the tests cs, ds are left: those before them passed
 pub data Left : List Check → List Check → Type 0 where
@@ -28,6 +28,10 @@ pub passes : {cs : List Check} → Left cs [] → pass ≡ finding cs
 unfolding finding
 passes l = sym (same l)
 
+-- what is left decides
+pub goes-on : {cs ds : List Check} {v : Finding} → Left cs ds → v ≡ finding ds → v ≡ finding cs
+goes-on l e = e ∙ sym (same l)
+
 -- of a rule's tests, those from the k-th on are left
-abbrev pub LeftFrom : ℕ → ℕ → Session → Tables → Rule → Type 0
-LeftFrom k n s t r = let cs = tests n (ledgerOf n s t .forms) (ledgerOf n s t .lines) r in Left cs (drop k cs)
+abbrev pub LeftFrom : ℕ → ℕ → ℕ → List ℤ → Rule → Type 0
+LeftFrom k n many cells r = let cs = tests n (formsIn n many cells) [] r in Left cs (drop k cs)

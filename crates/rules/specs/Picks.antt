@@ -1,4 +1,4 @@
--- Picked forms and their multipliers, as FK and CL bring them.
+-- Picked forms and their multipliers, as the rules on sums bring them.
 use mathlib.Core.Path.{_≡_}
 use mathlib.Core.Bool.{Bool, _&&_}
 use mathlib.Core.List.{List}

@@ -1,51 +1,67 @@
--- What a judging function may take for granted, and the forms and lines that it reads.
+-- What a judging function may take for granted of the cells that it reads, and what it answers.
 use mathlib.Core.Path.{_≡_}
-use mathlib.Core.List.{List}
-use Prim.Native.Nat.{ℕ, _≤_}
-use lib.ListN.{length, take}
-use Rattle.ledger.specs.Limits.{mostLevels, longestLine}
-use Rattle.ledger.specs.Literals.{without}
-use Rattle.ledger.specs.Record.{Rule, RS}
-use Rattle.ledger.specs.Apply.{pass, fail, finding}
-use Rattle.ledger.specs.Checks.{tests, Passed, resolvent}
-use Rattle.session.specs.declared.state.Session.{Session}
+use mathlib.Core.List.{List, []}
+use Prim.Native.Nat.{ℕ, suc, _+_, _≤_, _<_}
+use lib.Dec.{T}
+use lib.IntN.{ℤ}
+use lib.ListN.{length}
+use Rattle.rows.specs.Form.{Form, formAt, legal}
+use Rattle.ledger.specs.Limits.{mostForms, mostLines, longestLine}
+use Rattle.ledger.specs.Ledger.{Line}
+use Rattle.ledger.specs.Record.{Rule, make, RS}
+use Rattle.ledger.specs.Apply.{finding, proposed}
+use Rattle.ledger.specs.Checks.{tests}
 use Rattle.session.specs.Limits.{formTable, poolTable, lineTable}
-use Rattle.session.specs.Cells.{Tables, ledgerOf}
-use Rattle.session.specs.InOrder.{order}
-use Rattle.session.specs.Answers.{numberOf, findingOf}
-use Rattle.session.specs.declared.answers.Refusal.{Refusal}
+use Rattle.session.specs.Cells.{tables, endBefore, lineAt, upTo}
+use Rattle.session.specs.Answers.{findingOf}
 use Rattle.session.specs.declared.answers.Verdict.{Verdict}
-use Rattle.records.specs.declared.fields.Literals.{Literals}
-use Rattle.rules.specs.declared.resolve.Resolved.{Resolved}
+use Rattle.proposals.specs.declared.Proposal.{Proposal}
+use Rattle.proposals.specs.Proposing.{Proposes}
 
--- the tables are cut to their named cells, and in order
-pub record Held (n : ℕ) (s : Session) (t : Tables) : Type 0 where
-  pub form-size : length (t .forms) ≡ formTable n
-  pub pool-size : length (t .pool) ≡ poolTable
-  pub line-size : length (t .lines) ≡ lineTable
-  pub mark-size : length (s .marks) ≡ mostLevels
-  pub ordered : Passed (order n s t)
+-- so many forms lie in the table, and are legal
+pub record FormsHeld (n many : ℕ) (cells : List ℤ) : Type 0 where
+  pub size : length cells ≡ formTable n
+  pub few : many ≤ mostForms
+  pub contents : (f : ℕ) → f < many → T (legal n (formAt n cells f))
 
--- the verdict is what the rule's tests find on the ledger that is read
-abbrev pub Judged : ℕ → Session → Tables → Rule → Verdict → Type 0
-Judged n s t r v = findingOf v ≡ finding (tests n (ledgerOf n s t .forms) (ledgerOf n s t .lines) r)
+-- the forms that are read
+abbrev pub formsIn : ℕ → ℕ → List ℤ → List Form
+formsIn n many cells = upTo many (formAt n cells)
 
--- the literals that an array holds
-abbrev pub literalsIn : Literals → List ℕ
-literalsIn x = take (x .count) (x .cells)
+-- so many lines lie in the pool, none longer than a line may be
+pub record LinesHeld (many : ℕ) (pool lines : List ℕ) : Type 0 where
+  pub size : length lines ≡ lineTable
+  pub few : many ≤ mostLines
+  pub rise : (i : ℕ) → i < many → endBefore lines i ≤ endBefore lines (suc i)
+  pub short : (i : ℕ) → i < many → endBefore lines (suc i) ≤ endBefore lines i + longestLine
+  pub inside : (i : ℕ) → i < many → endBefore lines (suc i) ≤ length pool
 
--- what a line leaves when it loses a literal
-pub record Gathered (line : List ℕ) (less : ℕ) (r : Literals) : Type 0 where
-  pub few : r .count ≤ longestLine
-  pub left : literalsIn r ≡ without less line
+-- the lines that are read
+abbrev pub linesIn : ℕ → List ℕ → List ℕ → List Line
+linesIn many pool lines = upTo many (lineAt (tables [] pool lines))
 
--- a refusal, and nothing else
-pub record Undecided (why : Refusal) (r : Resolved) : Type 0 where
-  pub refused : findingOf (r .verdict) ≡ fail (numberOf why)
-  pub none : r .count ≡ 0
+-- a rule on forms: the verdict is what its tests find on the forms that are read
+abbrev pub Judged : ℕ → ℕ → List ℤ → Rule → Verdict → Type 0
+Judged n many cells r v = findingOf v ≡ finding (tests n (formsIn n many cells) [] r)
 
--- the verdict, and where the tests pass, the line
-pub record Resolves (n : ℕ) (s : Session) (t : Tables) (p i j : ℕ) (r : Resolved) : Type 0 where
-  pub judged : Judged n s t (RS p i j) (r .verdict)
-  pub few : r .count ≤ longestLine
-  pub line : findingOf (r .verdict) ≡ pass → take (r .count) (r .cells) ≡ resolvent (ledgerOf n s t .lines) p i j
+-- RS, over any forms of this number
+abbrev pub Resolves : ℕ → ℕ → List ℕ → List ℕ → ℕ → ℕ → ℕ → Proposal → List ℕ → List ℕ → Type 0
+Resolves forms many pool lines p i j r xs ys =
+    (n : ℕ) (fs : List Form) (cells : List ℤ) → length fs ≡ forms
+    → Proposes r cells xs ys (proposed n fs (linesIn many pool lines) (make (RS p i j)))
+
+-- a rule on forms, beside any lines
+abbrev pub ProposesRule : ℕ → ℕ → List ℤ → Rule → Proposal → List ℕ → List ℕ → Type 0
+ProposesRule n many fs q r xs ys = (ls : List Line) (cells : List ℤ) → Proposes r cells xs ys (proposed n (formsIn n many fs) ls (make q))
+
+-- a rule on forms that makes its line of the second list alone
+abbrev pub ProposesSum : ℕ → ℕ → List ℤ → Rule → Proposal → List ℕ → Type 0
+ProposesSum n many fs q r ys = (xs : List ℕ) → ProposesRule n many fs q r xs ys
+
+-- FM reads no table, and PM only the count of forms
+abbrev pub ProposesForm : ℕ → Rule → Proposal → List ℤ → Type 0
+ProposesForm n q r cells = (fs : List Form) (ls : List Line) (xs ys : List ℕ) → Proposes r cells xs ys (proposed n fs ls (make q))
+
+abbrev pub ProposesPremise : ℕ → ℕ → Rule → Proposal → List ℕ → Type 0
+ProposesPremise n many q r ys =
+    (fs : List Form) (ls : List Line) (cells : List ℤ) (xs : List ℕ) → length fs ≡ many → Proposes r cells xs ys (proposed n fs ls (make q))

@@ -1,6 +1,6 @@
-// For each mark the judging function: it only reads, and finds what the ledger's own list of tests for that mark finds.
-pub mod lists;
+// For each mark of a rule the function that judges a record and says what it proposes. It reads what it judges by: a rule on forms the form
+// table and the count of forms, RS the pool and the line table; and it writes only what is lent for the form's cells and the line's literals.
+pub mod entries;
 pub mod pairs;
-pub mod premise;
 pub mod resolve;
 pub mod sums;

@@ -1,29 +1,18 @@
-// RS: each parent is copied out of the pool, less its literal of the pivot; what is left of both, joined, is the line.
+// RS: what each parent leaves without its literal of the pivot is gathered out of the pool; both, joined, are the line.
 ghost use mathlib.Core.Path.{_≡_};
 ghost use Prim.Native.Nat.{_≤_, _<_};
 ghost use lib.ListN.{length};
-ghost use Rattle.rows.specs.Limits.{unknowns};
-ghost use Rattle.ledger.specs.Limits.{longestLine};
-ghost use Rattle.session.specs.Cells.{tables, literalsAt};
-ghost use Rattle.rules.specs.Read.{Held, Gathered, Resolves, Undecided};
-use records::fields::Literals;
+ghost use Rattle.ledger.specs.Limits.{mostForms, longestLine};
+ghost use Rattle.session.specs.Cells.{literalsAt};
+ghost use Rattle.rules.specs.Read.{LinesHeld, Resolves};
+use proposals::NewLine;
+use proposals::Proposal;
 use session::answers::Refusal;
-use session::answers::Verdict;
 use session::state::Session;
 
-// The most literals of two lines.
-pub const TWO_LINES: usize = 2 * Session::LONGEST_LINE;
-
-// The verdict, and the line.
-pub struct Resolved {
-    pub verdict: Verdict,
-    pub cells: [u16; TWO_LINES],
-    pub count: usize,
-}
-
 // The literals of line i.
-fn literals_of<'a>(s: Session, forms: &[i32], pool: &'a [u16], lines: &[u16], i: u16) -> &'a [u16]
-    requires { ⌜ Held unknowns s (tables (now forms) (now pool) (now lines)) × (i < s .lines) ⌝ }
+fn literals_of<'a>(count: u16, pool: &'a [u16], lines: &[u16], i: u16) -> &'a [u16]
+    requires { ⌜ LinesHeld count (now pool) (now lines) × (i < count) ⌝ }
     ensures { λ r. ⌜ now r ≡ literalsAt (now (pool .entry)) (now (lines .entry)) i ⌝ }
 {
     let k = i as usize;
@@ -32,77 +21,41 @@ fn literals_of<'a>(s: Session, forms: &[i32], pool: &'a [u16], lines: &[u16], i:
     &pool[from..end]
 }
 
-// The literals of a line but one.
-fn gather(line: &[u16], less: u16) -> Literals
-    requires { ⌜ length (now line) ≤ longestLine ⌝ }
-    ensures { λ r. ⌜ Gathered (now (line .entry)) less r ⌝ }
-{
-    let mut cells = [0u16; Session::LONGEST_LINE];
-    let mut count: usize = 0;
-    let mut i: usize = 0;
-    while i < line.len() {
-        let x = line[i];
-        cells[count] = x;
-        count += (x != less) as usize;
-        i += 1;
-    }
-    Literals { cells, count }
-}
-
-// A refusal, with no line.
-fn refuse(why: Refusal) -> Resolved
-    ensures { λ r. ⌜ Undecided why r ⌝ }
-{
-    Resolved {
-        verdict: Verdict::Fail(why),
-        cells: [0u16; TWO_LINES],
-        count: 0,
-    }
-}
-
 pub fn resolve(
-    s: Session,
-    forms: &[i32],
+    forms: u16,
+    count: u16,
     pool: &[u16],
     lines: &[u16],
     pivot: u16,
     i: u16,
     j: u16,
-) -> Resolved
-    requires { ⌜ Held unknowns s (tables (now forms) (now pool) (now lines)) ⌝ }
-    ensures { λ r. ⌜ Resolves unknowns s (tables (now (forms .entry)) (now (pool .entry)) (now (lines .entry))) pivot i j r ⌝ }
+    first: &mut [u16],
+    second: &mut [u16],
+) -> Proposal
+    requires { ⌜ LinesHeld count (now pool) (now lines) × (forms ≤ mostForms) × (length (now first) ≡ longestLine) × (length (now second) ≡ longestLine) ⌝ }
+    ensures { λ r. ⌜ Resolves forms count (now (pool .entry)) (now (lines .entry)) pivot i j r (now (first .exit)) (now (second .exit)) ⌝ }
 {
-    if s.forms <= pivot {
-        return refuse(Refusal::NotInForce);
+    if forms <= pivot {
+        return Proposal::Refused(Refusal::NotInForce);
     }
-    if s.lines <= i {
-        return refuse(Refusal::NotInForce);
+    if count <= i {
+        return Proposal::Refused(Refusal::NotInForce);
     }
-    if s.lines <= j {
-        return refuse(Refusal::NotInForce);
+    if count <= j {
+        return Proposal::Refused(Refusal::NotInForce);
     }
-    let a = literals_of(s, forms, pool, lines, i);
-    let b = literals_of(s, forms, pool, lines, j);
-    let first = gather(a, 2 * pivot);
-    let second = gather(b, 2 * pivot + 1);
-    if first.count == a.len() {
-        return refuse(Refusal::ConditionFails);
+    let a = literals_of(count, pool, lines, i);
+    let b = literals_of(count, pool, lines, j);
+    let n = literals::gather::gather(first, a, 2 * pivot);
+    if n == a.len() {
+        return Proposal::Refused(Refusal::ConditionFails);
     }
-    if second.count == b.len() {
-        return refuse(Refusal::ConditionFails);
+    let m = literals::gather::gather(second, b, 2 * pivot + 1);
+    if m == b.len() {
+        return Proposal::Refused(Refusal::ConditionFails);
     }
-    let xs = first.cells;
-    let n = first.count;
-    let ys = second.cells;
-    let m = second.count;
-    let mut cells = [0u16; TWO_LINES];
-    let count = writes::join::join_into(&mut cells, &xs[0..n], &ys[0..m]);
-    if Session::LONGEST_LINE < count {
-        return refuse(Refusal::LineTooLong);
+    if literals::join::longer_than(&first[0..n], &second[0..m], Session::LONGEST_LINE) {
+        return Proposal::Refused(Refusal::LineTooLong);
     }
-    Resolved {
-        verdict: Verdict::Pass,
-        cells,
-        count,
-    }
+    Proposal::Line(NewLine::derived(n, m))
 }

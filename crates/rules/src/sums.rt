@@ -1,18 +1,24 @@
-// The rules on sums: FK and CL.
+// The rules on sums: FK and CL. Both read their terms, test forms, kinds and multipliers, and then what the sum reaches.
 ghost use mathlib.Core.Path.{_≡_};
 ghost use mathlib.Core.Bool.{_&&_};
 ghost use Rattle.ints.specs.Tests.{eqZ, between, all};
-ghost use Rattle.rows.specs.Limits.{unknowns};
+ghost use lib.ListN.{length};
+ghost use Rattle.rows.specs.Limits.{unknowns, mostTerms};
 ghost use Rattle.rows.specs.Form.{formAt, Inside, legalMultiplier};
 ghost use Rattle.rows.specs.Sum.{terms};
-ghost use Rattle.ledger.specs.Record.{FK, CL};
-ghost use Rattle.session.specs.Cells.{tables};
-ghost use Rattle.rules.specs.Read.{Held, Judged};
+ghost use Rattle.ledger.specs.Record.{FK, CL, behindLetters};
+ghost use Rattle.ledger.specs.Bytes.{termsBehind};
+ghost use Rattle.records.specs.Fields.{Listed};
+ghost use Rattle.proposals.specs.Proposing.{Scratch};
+ghost use Rattle.rules.specs.Read.{FormsHeld, Judged, ProposesSum};
 ghost use Rattle.rules.specs.Picks.{Picked, Paired, allowed};
+use proposals::Proposal;
+use proposals::derived::all_negated;
+use records::fields::read_terms;
+use records::marks::BEHIND_LETTERS;
 use rows::sums::Reached;
 use session::answers::Refusal;
 use session::answers::Verdict;
-use session::state::Session;
 
 // Whether form f has a kind of this range, and may be added m times.
 fn term_allowed(forms: &[i32], f: u16, m: i32, low: i32, high: i32) -> bool
@@ -60,22 +66,14 @@ fn divisors_are(forms: &[i32], picks: &[u16], divisor: i32) -> bool
     true
 }
 
-// FK
-pub fn judge_farkas(
-    s: Session,
-    forms: &[i32],
-    pool: &[u16],
-    lines: &[u16],
-    picks: &[u16],
-    multipliers: &[i32],
-) -> Verdict
-    requires { ⌜ Held unknowns s (tables (now forms) (now pool) (now lines)) × Paired (now picks) (now multipliers) ⌝ }
-    ensures { λ r. ⌜ Judged unknowns s (tables (now (forms .entry)) (now (pool .entry)) (now (lines .entry))) (FK (terms (now (picks .entry)) (now (multipliers .entry)))) r ⌝ }
+fn judge_farkas(count: u16, forms: &[i32], picks: &[u16], multipliers: &[i32]) -> Verdict
+    requires { ⌜ FormsHeld unknowns count (now forms) × Paired (now picks) (now multipliers) ⌝ }
+    ensures { λ r. ⌜ Judged unknowns count (now (forms .entry)) (FK (terms (now (picks .entry)) (now (multipliers .entry)))) r ⌝ }
 {
-    if !crate::lists::all_below(picks, s.forms) {
+    if !literals::tests::all_below(picks, count) {
         return Verdict::Fail(Refusal::NotInForce);
     }
-    if !crate::lists::ascend(picks) {
+    if !literals::tests::ascend(picks) {
         return Verdict::Fail(Refusal::NotAscending);
     }
     if !terms_allowed(forms, picks, multipliers, rows::AT_MOST, rows::IS_ZERO) {
@@ -93,22 +91,14 @@ pub fn judge_farkas(
     }
 }
 
-// CL
-pub fn judge_clash(
-    s: Session,
-    forms: &[i32],
-    pool: &[u16],
-    lines: &[u16],
-    picks: &[u16],
-    multipliers: &[i32],
-) -> Verdict
-    requires { ⌜ Held unknowns s (tables (now forms) (now pool) (now lines)) × Paired (now picks) (now multipliers) ⌝ }
-    ensures { λ r. ⌜ Judged unknowns s (tables (now (forms .entry)) (now (pool .entry)) (now (lines .entry))) (CL (terms (now (picks .entry)) (now (multipliers .entry)))) r ⌝ }
+fn judge_clash(count: u16, forms: &[i32], picks: &[u16], multipliers: &[i32]) -> Verdict
+    requires { ⌜ FormsHeld unknowns count (now forms) × Paired (now picks) (now multipliers) ⌝ }
+    ensures { λ r. ⌜ Judged unknowns count (now (forms .entry)) (CL (terms (now (picks .entry)) (now (multipliers .entry)))) r ⌝ }
 {
-    if !crate::lists::all_below(picks, s.forms) {
+    if !literals::tests::all_below(picks, count) {
         return Verdict::Fail(Refusal::NotInForce);
     }
-    if !crate::lists::ascend(picks) {
+    if !literals::tests::ascend(picks) {
         return Verdict::Fail(Refusal::NotAscending);
     }
     if !terms_allowed(
@@ -134,4 +124,36 @@ pub fn judge_clash(
             }
         }
     }
+}
+
+pub fn farkas(
+    count: u16,
+    forms: &[i32],
+    bytes: &[u8],
+    multipliers: &mut [i32],
+    first: &mut [u16],
+    second: &mut [u16],
+) -> Proposal
+    requires { ⌜ FormsHeld unknowns count (now forms) × Listed behindLetters 6 1 mostTerms (now bytes) × (length (now multipliers) ≡ mostTerms) × Scratch (now first) (now second) ⌝ }
+    ensures { λ r. ⌜ ProposesSum unknowns count (now (forms .entry)) (FK (termsBehind behindLetters (now (bytes .entry)))) r (now (second .exit)) ⌝ }
+{
+    let n = read_terms(first, multipliers, bytes, BEHIND_LETTERS);
+    let v = judge_farkas(count, forms, &first[0..n], &multipliers[0..n]);
+    all_negated(v, &first[0..n], second)
+}
+
+pub fn clash(
+    count: u16,
+    forms: &[i32],
+    bytes: &[u8],
+    multipliers: &mut [i32],
+    first: &mut [u16],
+    second: &mut [u16],
+) -> Proposal
+    requires { ⌜ FormsHeld unknowns count (now forms) × Listed behindLetters 6 1 mostTerms (now bytes) × (length (now multipliers) ≡ mostTerms) × Scratch (now first) (now second) ⌝ }
+    ensures { λ r. ⌜ ProposesSum unknowns count (now (forms .entry)) (CL (termsBehind behindLetters (now (bytes .entry)))) r (now (second .exit)) ⌝ }
+{
+    let n = read_terms(first, multipliers, bytes, BEHIND_LETTERS);
+    let v = judge_clash(count, forms, &first[0..n], &multipliers[0..n]);
+    all_negated(v, &first[0..n], second)
 }

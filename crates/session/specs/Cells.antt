@@ -47,6 +47,10 @@ markAt s k = getD (s .marks) k noMark
 
 -- ---- the tables
 
+-- the cells of a line that ends there: they are `lineCells` many
+abbrev pub cellsOfLine : ℕ → Line → List ℕ
+cellsOfLine end x = end ∷ x .origin ∷ []
+
 -- the end of the line before line i, or 0
 abbrev pub endBefore : List ℕ → ℕ → ℕ
 endBefore lines zero = 0

@@ -1,14 +1,13 @@
--- The four ways in which the session and its cells ever change, and the room that each of them needs.
-use mathlib.Core.Path.{_≡_}
+-- The ways in which the session and its cells ever change.
 use mathlib.Core.List.{List, [], _∷_, _++_}
-use Prim.Native.Nat.{ℕ, _+_, _*_, _-_, _≤_, _<_}
+use Prim.Native.Nat.{ℕ, _+_, _*_, _-_, _≤_}
 use lib.IntN.{ℤ, pos}
 use lib.ListN.{length, take, drop, set, replicate}
-use Rattle.ledger.specs.Limits.{mostForms, mostLines, mostLiterals, mostLevels}
+use Rattle.ledger.specs.Ledger.{Line}
 use Rattle.session.specs.declared.state.Mark.{Mark}
 use Rattle.session.specs.declared.state.Session.{Session}
-use Rattle.session.specs.Limits.{lineCells, formCells, formTable, poolTable, lineTable}
-use Rattle.session.specs.Cells.{Tables, tables, noMark, countsOf, markAt}
+use Rattle.session.specs.Limits.{lineCells, formCells}
+use Rattle.session.specs.Cells.{Tables, tables, noMark, countsOf, markAt, cellsOfLine}
 
 module _ {A : Type 0} where
   -- vs in the cells from `at` on
@@ -24,30 +23,22 @@ module _ {A : Type 0} where
 abbrev pub withForm : Session → Session
 withForm s = record { forms = s .forms + 1; lines = s .lines; literals = s .literals; «open» = s .«open»; marks = s .marks }
 
-pub record FormRoom (n : ℕ) (s : Session) (fs cells : List ℤ) : Type 0 where
-  pub count : s .forms < mostForms
-  pub table : length fs ≡ formTable n
-  pub whole : length cells ≡ formCells n
-
-pub record FormAdded (n : ℕ) (s : Session) (fs cells : List ℤ) (r : Session) (fs' : List ℤ) : Type 0 where
-  pub session : r ≡ withForm s
-  pub forms : fs' ≡ written (formCells n * s .forms) cells fs
+-- behind k forms
+abbrev pub formWritten : ℕ → ℕ → List ℤ → List ℤ → List ℤ
+formWritten n k cells forms = written (formCells n * k) cells forms
 
 -- ---- one line more
 
 abbrev pub withLine : Session → ℕ → Session
 withLine s k = record { forms = s .forms; lines = s .lines + 1; literals = s .literals + k; «open» = s .«open»; marks = s .marks }
 
-pub record LineRoom (s : Session) (ps ls xs : List ℕ) : Type 0 where
-  pub count : s .lines < mostLines
-  pub literals : s .literals + length xs ≤ mostLiterals
-  pub pool : length ps ≡ poolTable
-  pub table : length ls ≡ lineTable
+-- behind e literals
+abbrev pub literalsWritten : ℕ → Line → List ℕ → List ℕ
+literalsWritten e x pool = written e (x .literals) pool
 
-pub record LineAdded (s : Session) (ps ls xs : List ℕ) (origin : ℕ) (r : Session) (ps' ls' : List ℕ) : Type 0 where
-  pub session : r ≡ withLine s (length xs)
-  pub pool : ps' ≡ written (s .literals) xs ps
-  pub lines : ls' ≡ written (lineCells * s .lines) ((s .literals + length xs) ∷ origin ∷ []) ls
+-- behind k lines of e literals
+abbrev pub lineWritten : ℕ → ℕ → Line → List ℕ → List ℕ
+lineWritten k e x lines = written (lineCells * k) (cellsOfLine (e + length (x .literals)) x) lines
 
 -- ---- one level more
 
@@ -76,24 +67,19 @@ lessLevel s =
       marks = set (s .marks) (s .«open» - 1) noMark;
     }
 
--- every freed cell is 0
-abbrev pub freed : ℕ → Session → Tables → Tables
-freed n s t =
+-- every cell between two marks is 0: the one that the counts return to, and the one that they come from
+abbrev pub freed : ℕ → Mark → Mark → Tables → Tables
+freed n from to t =
     tables
-    (cleared (pos 0) (formCells n * lastMark s .forms) (formCells n * s .forms) (t .forms))
-    (cleared 0 (lastMark s .literals) (s .literals) (t .pool))
-    (cleared 0 (lineCells * lastMark s .lines) (lineCells * s .lines) (t .lines))
+    (cleared (pos 0) (formCells n * from .forms) (formCells n * to .forms) (t .forms))
+    (cleared 0 (from .literals) (to .literals) (t .pool))
+    (cleared 0 (lineCells * from .lines) (lineCells * to .lines) (t .lines))
 
-pub record LevelRoom (n : ℕ) (s : Session) (t : Tables) : Type 0 where
-  pub «open» : 0 < s .«open»
-  pub levels : s .«open» ≤ mostLevels
-  pub forms : lastMark s .forms ≤ s .forms
-  pub lines : lastMark s .lines ≤ s .lines
-  pub literals : lastMark s .literals ≤ s .literals
-  pub form-table : formCells n * s .forms ≤ length (t .forms)
-  pub pool-table : s .literals ≤ length (t .pool)
-  pub line-table : lineCells * s .lines ≤ length (t .lines)
-
-pub record LevelClosed (n : ℕ) (s : Session) (t : Tables) (r : Session) (t' : Tables) : Type 0 where
-  pub session : r ≡ lessLevel s
-  pub tables : t' ≡ freed n s t
+-- and what that needs
+pub record Between (n : ℕ) (from to : Mark) (t : Tables) : Type 0 where
+  pub forms : from .forms ≤ to .forms
+  pub lines : from .lines ≤ to .lines
+  pub literals : from .literals ≤ to .literals
+  pub form-table : formCells n * to .forms ≤ length (t .forms)
+  pub pool-table : to .literals ≤ length (t .pool)
+  pub line-table : lineCells * to .lines ≤ length (t .lines)

@@ -30,6 +30,20 @@ impl Session {
     // The most literals of a line.
     pub const LONGEST_LINE: usize = 32;
 
+    pub const UNKNOWNS: usize = rows::UNKNOWNS;
+
+    // The size of a constant or coefficient, of a divisor, and of a multiplier.
+    pub const LARGEST_NUMBER: i32 = rows::LARGEST_NUMBER;
+
+    pub const LARGEST_DIVISOR: i32 = rows::LARGEST_DIVISOR;
+
+    pub const LARGEST_MULTIPLIER: i32 = rows::LARGEST_MULTIPLIER;
+
+    // The most terms of a sum.
+    pub const MOST_TERMS: usize = rows::MOST_TERMS;
+
+    pub const ROW_CELLS: usize = rows::ROW_CELLS;
+
     pub const FORM_CELLS: usize = rows::FORM_CELLS;
 
     // A line's end in the pool, and its origin.

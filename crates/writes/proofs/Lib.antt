@@ -1,3 +1,1 @@
-pub mod JoinLaws
-pub mod Filler
 pub mod PartLaws

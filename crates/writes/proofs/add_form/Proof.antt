@@ -1,5 +1,4 @@
 -- `writes::add_form` meets its contract.
-use mathlib.Core.Path.{refl}
 use Prim.Native.Nat.{_*_}
 use native.Mathlib.Nat.{zero-add}
 use native.Mathlib.Omega.{arith}
@@ -10,9 +9,6 @@ use Rattle.writes.proofs.PartLaws.{part-written}
 use borrow.Author.Needs.{needs}
 use Rattle.writes.proofs.add_form.Statement.{statement}
 use Rattle.writes.proofs.add_form.Tie as tie
-
-cast-at : tie.Need-cast-at
-cast-at c = search needs
 
 mul-at : tie.Need-mul-at
 mul-at c = search needs
@@ -32,33 +28,24 @@ part-put-cells-end c = search needs
 put-cells-requires : tie.Need-put-cells-requires
 put-cells-requires c κs = search needs
 
-add-next : tie.Need-add-next
-add-next c = search needs
-
 same-length : tie.Need-same-length
 same-length c = search needs
 
 returns : tie.Need-returns
 returns c =
-    let a = c .before .before .before .before .before .args in
-    record {
-      session = refl;
-      forms =
-          part-written (now (a .forms)) _ (now (a .cells)) (formCells unknowns * a .s .forms) (omega arith)
-          (rw zero-add at (c .before .before .put-cells .ensures));
-    }
+    let a = c .before .before .before .args in
+    part-written (now (a .forms)) _ (now (a .cells)) (formCells unknowns * a .count) (omega arith)
+    (rw zero-add at (c .before .put-cells .ensures))
 
 pub add-form-spec : {M : Type 1} → statement M
 add-form-spec =
     tie.close
     (tie.spec
-    cast-at
     mul-at
     mul-put-cells
     sub-put-cells
     part-put-cells-start
     part-put-cells-end
     put-cells-requires
-    add-next
     same-length
     returns)

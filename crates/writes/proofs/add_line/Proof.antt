@@ -6,14 +6,10 @@ use denote.Ref.{now}
 use lib.ListN.{length, length-set}
 use Rattle.ledger.specs.Literals.{joined}
 use Rattle.session.specs.Limits.{lineCells}
-use Rattle.session.specs.Effects.{withLine}
 use Rattle.writes.proofs.PartLaws.{part-written, two-written}
 use borrow.Author.Needs.{needs}
 use Rattle.writes.proofs.add_line.Statement.{statement}
 use Rattle.writes.proofs.add_line.Tie as tie
-
-cast-at : tie.Need-cast-at
-cast-at c = search needs
 
 mul-join-into : tie.Need-mul-join-into
 mul-join-into c = search needs
@@ -36,9 +32,6 @@ cast-end c = search needs
 add-end : tie.Need-add-end
 add-end c = search needs
 
-cast-k : tie.Need-cast-k
-cast-k c = search needs
-
 mul-k : tie.Need-mul-k
 mul-k c = search needs
 
@@ -57,9 +50,6 @@ mul-lines-2 c = search needs
 slice-write-lines-2 : tie.Need-slice-write-lines-2
 slice-write-lines-2 c = simp length-set (omega arith)
 
-add-next : tie.Need-add-next
-add-next c = search needs
-
 same-length : tie.Need-same-length
 same-length c = search needs
 
@@ -68,22 +58,21 @@ same-length-2 c = search needs
 
 returns : tie.Need-returns
 returns c =
-    let p = c .before .before .before .before .before in
-    let start = p .before .before .before .before .before .before .before in
+    let p = c .before .before in
+    let start = p .before .before .before .before .before .before in
     let a = start .args in
-    let n = start .pre .1 in
+    let n = p .join-into .ensures .0 in
     let xs = joined (now (a .a)) (now (a .b)) in
     record {
-      session = ap (withLine (a .s)) n;
-      pool = part-written (now (a .pool)) _ xs (a .s .literals) (omega arith) (p .join-into .ensures .1);
-      lines = rw n (two-written (now (a .lines)) (lineCells * a .s .lines) (a .s .literals + length xs) (a .origin) (omega arith));
+      ends = ap (_+_ (a .literals)) n;
+      pool = part-written (now (a .pool)) _ xs (a .literals) (omega arith) (p .join-into .ensures .1);
+      lines = rw n (two-written (now (a .lines)) (lineCells * a .behind) (a .literals + length xs) (a .origin) (omega arith));
     }
 
 pub add-line-spec : {M : Type 1} → statement M
 add-line-spec =
     tie.close
     (tie.spec
-    cast-at
     mul-join-into
     sub-join-into
     part-join-into-start
@@ -91,14 +80,12 @@ add-line-spec =
     join-into-requires
     cast-end
     add-end
-    cast-k
     mul-k
     mul-lines
     slice-write-lines
     add-lines
     mul-lines-2
     slice-write-lines-2
-    add-next
     same-length
     same-length-2
     returns)

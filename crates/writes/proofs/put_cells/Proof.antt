@@ -11,7 +11,7 @@ use mir.ValLaws.{toZ-ofZ}
 use lib.IntN.{pos}
 use lib.ListN.{length, getD, drop, drop-of-length-le}
 use lib.Seq.{drop-cons}
-use Rattle.writes.proofs.Filler.{Written, write-none, write-more, write-all}
+use Rattle.literals.proofs.Filler.{Written, write-none, write-more, write-all}
 use borrow.Author.Needs.{needs}
 use Rattle.writes.proofs.put_cells.Statement.{statement}
 use Rattle.writes.proofs.put_cells.Tie as tie

@@ -1,22 +1,20 @@
--- `read_literals` meets its contract. The loop's invariant: i literals are read.
-use mathlib.Core.Path.{_≡_, refl}
-use Prim.Native.Nat.{_≤_, _+_, _*_, _-_}
-use native.Mathlib.Omega.{arith}
-use borrow.Author.Needs.{needs}
-use denote.Ref.{now}
-use Rattle.ledger.specs.Limits.{longestLine}
-use Rattle.ledger.specs.Bytes.{byteAt, u16At}
 use Rattle.records.proofs.EachLaws.{Filled, filled-one}
-use Rattle.records.proofs.LayoutLaws.{at-most}
+use Rattle.ledger.specs.Bytes.{byteAt, u16At}
+use Rattle.ledger.specs.Limits.{longestLine}
+use lib.ListN.{length}
+use denote.Ref.{now}
+use borrow.Author.Needs.{needs}
+use native.Mathlib.Omega.{arith}
+use Prim.Native.Nat.{_≤_, _+_, _*_, _-_}
+use mathlib.Core.Path.{_≡_, refl}
 use Rattle.records.proofs.fields.read_literals.Statement.{statement}
 use Rattle.records.proofs.fields.read_literals.Tie as tie
 
 abbrev Inv-loop : tie.InvT-loop
-Inv-loop bytes count cells₀ i₀ cells i =
-    (i ≤ count) × (count ≤ longestLine) × Filled longestLine (λ k. u16At bytes (3 + 2 * k)) cells i
+Inv-loop cells₀ bytes place count from i₀ cells i = (i ≤ count) × (count ≤ longestLine) × Filled longestLine (λ k. u16At bytes (from + 2 * k)) cells i
 
 abbrev μ-loop : tie.MeasureT-loop
-μ-loop bytes count cells₀ i₀ cells i = count - i
+μ-loop cells₀ bytes place count from i₀ cells i = count - i
 
 shared-slice-read-count : tie.Need-shared-slice-read-count Inv-loop μ-loop
 shared-slice-read-count c = search needs
@@ -24,8 +22,11 @@ shared-slice-read-count c = search needs
 cast-count : tie.Need-cast-count Inv-loop μ-loop
 cast-count c = search needs
 
+add-from : tie.Need-add-from Inv-loop μ-loop
+add-from c = search needs
+
 loop-holds : tie.Need-loop-holds Inv-loop μ-loop
-loop-holds c = (omega arith, at-most (c .before .before .pre), record { size = refl; read = refl })
+loop-holds c = (omega arith, c .before .before .before .pre .1 .few, record { size = c .before .before .before .pre .0; read = refl })
 
 mul-u16-at : tie.Need-mul-u16-at Inv-loop μ-loop
 mul-u16-at c = search needs
@@ -39,8 +40,8 @@ u16-at-requires c κs = search needs
 mul-cells : tie.Need-mul-cells Inv-loop μ-loop
 mul-cells c = search needs
 
-array-write-cells : tie.Need-array-write-cells Inv-loop μ-loop
-array-write-cells c = search needs
+slice-write-cells : tie.Need-slice-write-cells Inv-loop μ-loop
+slice-write-cells c = search needs
 
 add-i : tie.Need-add-i Inv-loop μ-loop
 add-i c = search needs
@@ -49,15 +50,13 @@ loop-less : tie.Need-loop-less Inv-loop μ-loop
 loop-less c = search needs
 
 loop-again : tie.Need-loop-again Inv-loop μ-loop
-loop-again c =
-    let (low, few, filled) = c .before .before .loop .inv in
-    (omega arith, few, filled-one filled (omega arith) (c .u16-at .ensures))
+loop-again c = let (low, few, filled) = c .before .before .loop .inv in (omega arith, few, filled-one filled (omega arith) (c .u16-at .ensures))
+
+same-length : tie.Need-same-length Inv-loop μ-loop
+same-length c = search needs
 
 returns : tie.Need-returns Inv-loop μ-loop
-returns c =
-    let (low, few, filled) = c .before .loop .inv in
-    let e : c .before .loop .i ≡ byteAt (now (c .before .before .before .before .args .bytes)) 2 = omega arith in
-    record { few = few; read = rw e at (filled .read) }
+returns c = let (low, few, filled) = c .before .loop .inv in let e : c .before .loop .i ≡ byteAt (now (c .before .before .before .before .before .args .bytes)) (c .before .before .before .before .before .args .place) = omega arith in record { few = few; read = rw e at (filled .read) }
 
 pub read-literals-spec : {M : Type 1} → statement M
 read-literals-spec =
@@ -67,13 +66,15 @@ read-literals-spec =
     μ-loop
     shared-slice-read-count
     cast-count
+    add-from
     loop-holds
     mul-u16-at
     add-u16-at
     u16-at-requires
     mul-cells
-    array-write-cells
+    slice-write-cells
     add-i
     loop-less
     loop-again
+    same-length
     returns)

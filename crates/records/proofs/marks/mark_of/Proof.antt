@@ -19,6 +19,9 @@ loop-holds : tie.Need-loop-holds Inv-loop μ-loop
 unfolding markOf
 loop-holds c = record { within = omega arith; rest = refl }
 
+mul-m : tie.Need-mul-m Inv-loop μ-loop
+mul-m c = search needs
+
 array-copy-out-m : tie.Need-array-copy-out-m Inv-loop μ-loop
 array-copy-out-m c = search needs
 
@@ -47,6 +50,7 @@ mark-of-spec =
     Inv-loop
     μ-loop
     loop-holds
+    mul-m
     array-copy-out-m
     has-letters-requires
     returns

@@ -1,7 +1,8 @@
 -- `bytes_for` meets its contract: no record is so long that its length wraps.
 use native.Mathlib.Omega.{arith}
 use borrow.Author.Needs.{needs}
-use Rattle.records.proofs.LayoutLaws.{few-bytes}
+use Rattle.ledger.proofs.LayoutLaws.{few-bytes}
+use Rattle.records.specs.Marks.{recordMarkOf}
 use Rattle.records.proofs.shape.bytes_for.Statement.{statement}
 use Rattle.records.proofs.shape.bytes_for.Tie as tie
 
@@ -9,14 +10,10 @@ layout-of-requires : tie.Need-layout-of-requires
 layout-of-requires c κs = search needs
 
 mul-result : tie.Need-mul-result
-mul-result c =
-    let l = c .before .layout-of in
-    omega (arith, few-bytes (l .result) (c .before .before .args .m) (l .ensures) (c .before .before .fits .count))
+mul-result c = omega (arith, rw (← c .before .layout-of .ensures) at (few-bytes (recordMarkOf (c .before .before .args .m)) (c .before .before .args .count) (omega (arith, c .before .before .fits .count))))
 
 add-result : tie.Need-add-result
-add-result c =
-    let l = c .before .before .layout-of in
-    omega (arith, few-bytes (l .result) (c .before .before .before .args .m) (l .ensures) (c .before .before .before .fits .count))
+add-result c = omega (arith, rw (← c .before .before .layout-of .ensures) at (few-bytes (recordMarkOf (c .before .before .before .args .m)) (c .before .before .before .args .count) (omega (arith, c .before .before .before .fits .count))))
 
 returns : tie.Need-returns
 returns c = rw (← c .before .before .layout-of .ensures)

@@ -1,4 +1,3 @@
--- `count_in` meets its contract.
 use borrow.Author.Tests.{lt-leb, le-leb}
 use borrow.Author.Needs.{needs}
 use Rattle.records.proofs.shape.count_in.Statement.{statement}
@@ -14,4 +13,9 @@ returns-2 : tie.Need-returns-2
 returns-2 c = rw (← c .before .before .before .layout-of .ensures, le-leb _ _ (c .before .if1 .left))
 
 pub count-in-spec : {M : Type 1} → statement M
-count-in-spec = tie.close (tie.spec layout-of-requires returns returns-2)
+count-in-spec =
+    tie.close
+    (tie.spec
+    layout-of-requires
+    returns
+    returns-2)

@@ -6,11 +6,11 @@ use Rattle.replay.proofs.file.judge.Statement.{statement}
 use Rattle.replay.proofs.file.judge.Tie as tie
 
 abbrev Inv-loop : tie.InvT-loop
-Inv-loop fd forms₀ pool₀ lines₀ buffer₀ progress₀ pieces₀ forms pool lines buffer progress pieces =
+Inv-loop fd forms₀ pool₀ lines₀ buffer₀ reading₀ pieces₀ forms pool lines buffer reading pieces =
     (length forms ≡ length forms₀) × (length pool ≡ length pool₀) × (length lines ≡ length lines₀) × (length buffer ≡ length buffer₀)
 
 abbrev μ-loop : tie.MeasureT-loop
-μ-loop fd forms₀ pool₀ lines₀ buffer₀ progress₀ pieces₀ forms pool lines buffer progress pieces = pieces
+μ-loop fd forms₀ pool₀ lines₀ buffer₀ reading₀ pieces₀ forms pool lines buffer reading pieces = pieces
 
 start-requires : tie.Need-start-requires Inv-loop μ-loop
 start-requires c κs = search needs
@@ -21,8 +21,8 @@ loop-holds c = search needs
 is-over-requires : tie.Need-is-over-requires Inv-loop μ-loop
 is-over-requires c κs = search needs
 
-judge-piece-requires : tie.Need-judge-piece-requires Inv-loop μ-loop
-judge-piece-requires c κs = search needs
+read-piece-requires : tie.Need-read-piece-requires Inv-loop μ-loop
+read-piece-requires c κs = search needs
 
 sub-pieces : tie.Need-sub-pieces Inv-loop μ-loop
 sub-pieces c = search needs
@@ -48,21 +48,6 @@ same-length-4 c = search needs
 returns : tie.Need-returns Inv-loop μ-loop
 returns c = search needs
 
-same-length-5 : tie.Need-same-length-5 Inv-loop μ-loop
-same-length-5 c = search needs
-
-same-length-6 : tie.Need-same-length-6 Inv-loop μ-loop
-same-length-6 c = search needs
-
-same-length-7 : tie.Need-same-length-7 Inv-loop μ-loop
-same-length-7 c = search needs
-
-same-length-8 : tie.Need-same-length-8 Inv-loop μ-loop
-same-length-8 c = search needs
-
-returns-2 : tie.Need-returns-2 Inv-loop μ-loop
-returns-2 c = search needs
-
 pub judge-spec : {M : Type 1} → statement M
 judge-spec =
     tie.close
@@ -72,7 +57,7 @@ judge-spec =
     start-requires
     loop-holds
     is-over-requires
-    judge-piece-requires
+    read-piece-requires
     sub-pieces
     loop-less
     loop-again
@@ -80,9 +65,4 @@ judge-spec =
     same-length-2
     same-length-3
     same-length-4
-    returns
-    same-length-5
-    same-length-6
-    same-length-7
-    same-length-8
-    returns-2)
+    returns)

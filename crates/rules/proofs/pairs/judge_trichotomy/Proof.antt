@@ -9,7 +9,6 @@ use Rattle.rows.specs.Form.{atMost, isZero}
 use Rattle.rows.specs.Conditions.{isOneMinus, isOneMore}
 use Rattle.ledger.specs.Record.{TR}
 use Rattle.ledger.specs.Checks.{tests}
-use Rattle.session.specs.Cells.{tables}
 use Rattle.rules.proofs.HeldLaws.{form-inside}
 use Rattle.rules.proofs.FindingWalk.{whole, past, fails, passes, LeftFrom}
 use Rattle.rules.proofs.FormTests.{KindRead, RowsRead, in-force, not-in-force, kind-is, kind-not, rows-tested}
@@ -18,37 +17,37 @@ use Rattle.rules.proofs.pairs.judge_trichotomy.Tie as tie
 
 -- of the tests, those from the k-th on are left
 abbrev From : ℕ → tie.Start → Type 0
-From k s = let a = s .args in LeftFrom k unknowns (a .s) (tables (a .forms .now) (a .pool .now) (a .lines .now)) (TR (a .z) (a .u) (a .v))
+From k s = let a = s .args in LeftFrom k unknowns (a .count) (a .forms .now) (TR (a .z) (a .u) (a .v))
 
 returns : tie.Need-returns
 unfolding tests
-returns c = let s = c .before .before .before .before in fails whole (not-in-force (s .pre) (s .args .z) (c .if1 .taken))
+returns c = let s = c .before in fails whole (not-in-force (s .pre) (s .args .z) (c .if1 .taken))
 
 returns-2 : tie.Need-returns-2
 unfolding tests
 returns-2 c =
-    let s = c .before .before .before .before .before .before in
+    let s = c .before .before in
     fails (past whole (in-force (s .pre) (s .args .z) (omega arith))) (not-in-force (s .pre) (s .args .u) (c .if2 .taken))
 
-past2 : (c : tie.Else2) → From 2 (c .before .before .before .before .before .before)
+past2 : (c : tie.Else2) → From 2 (c .before .before)
 unfolding tests
 past2 c =
-    let s = c .before .before .before .before .before .before in
+    let s = c .before .before in
     past (past whole (in-force (s .pre) (s .args .z) (omega arith))) (in-force (s .pre) (s .args .u) (omega arith))
 
 returns-3 : tie.Need-returns-3
 unfolding tests
 returns-3 c =
-    let s = c .before .before .before .before .before .before .before .before in
-    fails (past2 (c .before .before)) (not-in-force (s .pre) (s .args .v) (c .if3 .taken))
+    let s = c .before .before .before in
+    fails (past2 (c .before)) (not-in-force (s .pre) (s .args .v) (c .if3 .taken))
 
 -- the start, from where all three forms are in force
 abbrev start : tie.Else3 → tie.Start
-start d = d .before .before .before .before .before .before .before .before
+start d = d .before .before .before
 
 past3 : (d : tie.Else3) → From 3 (start d)
 unfolding tests
-past3 d = let s = start d in past (past2 (d .before .before)) (in-force (s .pre) (s .args .v) (omega arith))
+past3 d = let s = start d in past (past2 (d .before)) (in-force (s .pre) (s .args .v) (omega arith))
 
 kind-requires : tie.Need-kind-requires
 kind-requires c κs = let s = start c in form-inside (s .pre) (s .args .z) (omega arith)

@@ -6,12 +6,11 @@ use native.Mathlib.Omega.{arith}
 use borrow.Author.Needs.{needs}
 use lib.ListN.{length}
 use Rattle.session.specs.Cells.{endBefore}
-use Rattle.rules.proofs.HeldLaws.{held-clauses, line-rises, line-inside}
 use Rattle.rules.proofs.resolve.literals_of.Statement.{statement}
 use Rattle.rules.proofs.resolve.literals_of.Tie as tie
 
 end-before-requires : tie.Need-end-before-requires
-end-before-requires c κs = let h = c .before .before .pre .0 in omega (arith, h .line-size, held-clauses h .few-lines)
+end-before-requires c κs = let h = c .before .before .pre .0 in omega (arith, h .size, h .few)
 
 cast-from : tie.Need-cast-from
 cast-from c = search needs
@@ -20,7 +19,7 @@ add-end-before : tie.Need-add-end-before
 add-end-before c = search needs
 
 end-before-requires-2 : tie.Need-end-before-requires-2
-end-before-requires-2 c κs = let h = c .before .before .before .pre .0 in omega (arith, h .line-size, held-clauses h .few-lines)
+end-before-requires-2 c κs = let h = c .before .before .before .pre .0 in omega (arith, h .size, h .few)
 
 cast-end : tie.Need-cast-end
 cast-end c = search needs
@@ -39,13 +38,13 @@ rises : (c : tie.After-end-before2) → c .before .end-before .result ≤ c .end
 rises c =
     let s = c .before .before .before .before in
     let p = s .pre in
-    omega (arith, its-end c, c .before .end-before .ensures, line-rises (p .0) (s .args .i) (p .1))
+    omega (arith, its-end c, c .before .end-before .ensures, p .0 .rise (s .args .i) (p .1))
 
 inside : (c : tie.After-end-before2) → c .end-before2 .result ≤ length (c .before .before .before .before .args .pool .now)
 inside c =
     let s = c .before .before .before .before in
     let p = s .pre in
-    omega (arith, its-end c, line-inside (p .0) (s .args .i) (p .1))
+    omega (arith, its-end c, p .0 .inside (s .args .i) (p .1))
 
 sub-result : tie.Need-sub-result
 sub-result c = rises c

@@ -9,7 +9,7 @@ use lib.ListN.{drop}
 use mir.Syntax.{w32, w64}
 use mir.Val.{toZ, ofZ}
 use mir.ValLaws.{toZ-ofZ}
-use Rattle.ints.specs.Tests.{all, divides}
+use Rattle.ints.specs.Tests.{all, divides, eqZ}
 use Rattle.rows.specs.Limits.{unknowns}
 use Rattle.rows.specs.Row.{Row}
 use Rattle.rows.specs.Form.{isDivided, rowAt}
@@ -18,58 +18,82 @@ use Rattle.rows.specs.Conditions.{clash}
 use Rattle.rows.proofs.Reached.{reached-constant, clash-reached, clash-stray}
 use Rattle.rows.proofs.SumLaws.{small-sums}
 use Rattle.ledger.specs.Literals.{ascending}
+use mathlib.Core.List.{List, [], _∷_}
+use Rattle.ledger.specs.Record.{CL}
+use Rattle.ledger.specs.Checks.{Check, _else_, tests}
+use Rattle.ledger.specs.Apply.{Finding, finding}
+use Rattle.rules.specs.Read.{FormsHeld}
+use Rattle.rules.specs.Picks.{Paired}
+use Rattle.rules.proofs.HeldLaws.{Finds}
+use Rattle.rules.proofs.TermParts.{divided}
 use Rattle.rules.proofs.FindingWalk.{Left, whole, past, fails, passes}
-use Rattle.rules.proofs.TermTests.{inForce, termAllowed, modulus, hasDivisor, clashTests, clash-found, picked, summable}
+use Rattle.rules.proofs.TermTests.{shared, shared-read, sum-read, modulus-read, divisors-read, inForce, termAllowed, modulus, hasDivisor, picked, summable}
 use Rattle.rules.proofs.sums.judge_clash.Statement.{statement}
 use Rattle.rules.proofs.sums.judge_clash.Tie as tie
+
+-- ---- the tests of the rule, by the cells
+
+abbrev clashTests : ℕ → ℕ → List ℤ → List ℕ → List ℤ → List Check
+clashTests n many cells ps ms =
+    let d = modulus n cells ps in
+    shared n many cells isDivided isDivided ps ms
+    ((all (hasDivisor n cells d) ps else 10) ∷ (clash d (summed n (rowAt n cells) (terms ps ms)) else 11) ∷ [])
+
+module _ {n many : ℕ} {cells : List ℤ} (h : FormsHeld n many cells) {ps : List ℕ} {ms : List ℤ} (p : Paired ps ms) where
+  clash-found : {v : Finding} → v ≡ finding (clashTests n many cells ps ms) → Finds n many cells (CL (terms ps ms)) v
+  unfolding tests
+  clash-found e =
+      e
+      ∙ sym (shared-read h p (λ k. eqZ k isDivided) isDivided isDivided divided _ _
+      (λ k. rw (modulus-read h p k, divisors-read h p (modulus n cells ps) k, sum-read h p k)))
 
 all-below-requires : tie.Need-all-below-requires
 all-below-requires c κs = search needs
 
 returns : tie.Need-returns
 returns c =
-    let p = c .before .before .before .before .before .pre in
+    let p = c .before .before .before .pre in
     clash-found (p .0) (p .1) (fails whole (sym (c .before .all-below .ensures) ∙ not-true _ (c .if1 .taken)))
 
 ascend-requires : tie.Need-ascend-requires
 ascend-requires c κs = search needs
 
 -- every form is in force
-forms-in : (c : tie.Else1) → let a = c .before .before .before .before .before .args in inForce (a .s) (a .picks .now) ≡ true
+forms-in : (c : tie.Else1) → let a = c .before .before .before .args in inForce (a .count) (a .picks .now) ≡ true
 forms-in c = sym (c .before .all-below .ensures) ∙ not-false _ (c .if1 .left)
 
 returns-2 : tie.Need-returns-2
 returns-2 c =
     let e = c .before .before in
-    let p = e .before .before .before .before .before .pre in
+    let p = e .before .before .before .pre in
     clash-found (p .0) (p .1) (fails (past whole (forms-in e)) (sym (c .before .ascend .ensures) ∙ not-true _ (c .if2 .taken)))
 
 -- and they ascend
-ascends : (c : tie.Else2) → ascending (c .before .before .before .before .before .before .before .args .picks .now) ≡ true
+ascends : (c : tie.Else2) → ascending (c .before .before .before .before .before .args .picks .now) ≡ true
 ascends c = sym (c .before .ascend .ensures) ∙ not-false _ (c .if2 .left)
 
 terms-allowed-requires : tie.Need-terms-allowed-requires
 terms-allowed-requires c κs =
     let e = c .before .before in
-    let p = e .before .before .before .before .before .pre in
+    let p = e .before .before .before .pre in
     (picked (p .0) (p .1) (forms-in e), p .1)
 
 returns-3 : tie.Need-returns-3
 returns-3 c =
     let e = c .before .before in
     let b = e .before .before in
-    let p = b .before .before .before .before .before .pre in
+    let p = b .before .before .before .pre in
     clash-found (p .0) (p .1)
     (fails (past (past whole (forms-in b)) (ascends e)) (sym (c .before .terms-allowed .ensures) ∙ not-true _ (c .if3 .taken)))
 
 -- ---- every term is allowed
 
 abbrev start : tie.Else3 → tie.Start
-start c = c .before .before .before .before .before .before .before .before .before
+start c = c .before .before .before .before .before .before .before
 
 -- the tests from the k-th on are left
 abbrev From : ℕ → tie.Start → Type 0
-From k s = let a = s .args in let cs = clashTests unknowns (a .s) (a .forms .now) (a .picks .now) (a .multipliers .now) in Left cs (drop k cs)
+From k s = let a = s .args in let cs = clashTests unknowns (a .count) (a .forms .now) (a .picks .now) (a .multipliers .now) in Left cs (drop k cs)
 
 -- the sum
 abbrev total : tie.Else3 → Row

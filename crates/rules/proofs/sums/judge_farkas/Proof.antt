@@ -1,68 +1,92 @@
 -- `rules::sums::judge_farkas` meets its contract: it makes the tests by the cells, which find what the tests on the ledger find.
-use mathlib.Core.Path.{_≡_, sym, _∙_}
-use mathlib.Core.Bool.{true}
+use mathlib.Core.Path.{_≡_, sym, ap, _∙_}
+use mathlib.Core.Bool.{true, _||_}
 use borrow.Author.Needs.{needs, sfits-of}
 use borrow.Author.Tests.{not-true, not-false}
-use lib.IntN.{pos}
+use Prim.Native.Nat.{ℕ}
+use lib.IntN.{ℤ, pos}
 use lib.ListN.{drop}
 use mir.Syntax.{w64}
 use mir.Val.{toZ, ofZ}
 use mir.ValLaws.{toZ-ofZ}
-use Rattle.ints.specs.Tests.{all}
+use Rattle.ints.specs.Tests.{all, eqZ}
 use Rattle.ints.proofs.Order.{lt→not-le, not-lt→le}
 use Rattle.rows.specs.Limits.{unknowns}
-use Rattle.rows.specs.Form.{atMost, isZero}
-use Rattle.rows.specs.Sum.{terms}
+use Rattle.rows.specs.Row.{Row}
+use Rattle.rows.specs.Form.{atMost, isZero, rowAt}
+use Rattle.rows.specs.Sum.{terms, summed}
+use Rattle.rows.specs.Conditions.{farkas}
 use Rattle.rows.proofs.Reached.{farkas-reached, farkas-stray}
 use Rattle.ledger.specs.Literals.{ascending}
+use mathlib.Core.List.{List, [], _∷_}
+use Rattle.ledger.specs.Record.{FK}
+use Rattle.ledger.specs.Checks.{Check, _else_, tests}
+use Rattle.ledger.specs.Apply.{Finding, finding}
+use Rattle.rules.specs.Read.{FormsHeld}
+use Rattle.rules.specs.Picks.{Paired}
+use Rattle.rules.proofs.HeldLaws.{Finds}
+use Rattle.rules.proofs.TermParts.{at-most-or-zero}
 use Rattle.rules.proofs.FindingWalk.{Left, whole, past, fails, passes}
-use Rattle.rules.proofs.TermTests.{inForce, termAllowed, farkasTests, farkas-found, picked, summable}
+use Rattle.rules.proofs.TermTests.{shared, shared-read, sum-read, inForce, termAllowed, picked, summable}
 use Rattle.rules.proofs.sums.judge_farkas.Statement.{statement}
 use Rattle.rules.proofs.sums.judge_farkas.Tie as tie
+
+-- ---- the tests of the rule, by the cells
+
+abbrev farkasTests : ℕ → ℕ → List ℤ → List ℕ → List ℤ → List Check
+farkasTests n many cells ps ms = shared n many cells atMost isZero ps ms ((farkas (summed n (rowAt n cells) (terms ps ms)) else 11) ∷ [])
+
+module _ {n many : ℕ} {cells : List ℤ} (h : FormsHeld n many cells) {ps : List ℕ} {ms : List ℤ} (p : Paired ps ms) where
+  farkas-found : {v : Finding} → v ≡ finding (farkasTests n many cells ps ms) → Finds n many cells (FK (terms ps ms)) v
+  unfolding tests
+  farkas-found e =
+      e
+      ∙ sym (shared-read h p (λ k. eqZ k atMost || eqZ k isZero) atMost isZero at-most-or-zero _ _
+      (λ k. ap (λ (r : Row). finding ((farkas r else 11) ∷ [])) (sum-read h p k)))
 
 all-below-requires : tie.Need-all-below-requires
 all-below-requires c κs = search needs
 
 returns : tie.Need-returns
 returns c =
-    let p = c .before .before .before .before .before .pre in
+    let p = c .before .before .before .pre in
     farkas-found (p .0) (p .1) (fails whole (sym (c .before .all-below .ensures) ∙ not-true _ (c .if1 .taken)))
 
 ascend-requires : tie.Need-ascend-requires
 ascend-requires c κs = search needs
 
 -- every form is in force
-forms-in : (c : tie.Else1) → let a = c .before .before .before .before .before .args in inForce (a .s) (a .picks .now) ≡ true
+forms-in : (c : tie.Else1) → let a = c .before .before .before .args in inForce (a .count) (a .picks .now) ≡ true
 forms-in c = sym (c .before .all-below .ensures) ∙ not-false _ (c .if1 .left)
 
 returns-2 : tie.Need-returns-2
 returns-2 c =
     let e = c .before .before in
-    let p = e .before .before .before .before .before .pre in
+    let p = e .before .before .before .pre in
     farkas-found (p .0) (p .1) (fails (past whole (forms-in e)) (sym (c .before .ascend .ensures) ∙ not-true _ (c .if2 .taken)))
 
 -- and they ascend
-ascends : (c : tie.Else2) → ascending (c .before .before .before .before .before .before .before .args .picks .now) ≡ true
+ascends : (c : tie.Else2) → ascending (c .before .before .before .before .before .args .picks .now) ≡ true
 ascends c = sym (c .before .ascend .ensures) ∙ not-false _ (c .if2 .left)
 
 terms-allowed-requires : tie.Need-terms-allowed-requires
 terms-allowed-requires c κs =
     let e = c .before .before in
-    let p = e .before .before .before .before .before .pre in
+    let p = e .before .before .before .pre in
     (picked (p .0) (p .1) (forms-in e), p .1)
 
 returns-3 : tie.Need-returns-3
 returns-3 c =
     let e = c .before .before in
     let b = e .before .before in
-    let p = b .before .before .before .before .before .pre in
+    let p = b .before .before .before .pre in
     farkas-found (p .0) (p .1)
     (fails (past (past whole (forms-in b)) (ascends e)) (sym (c .before .terms-allowed .ensures) ∙ not-true _ (c .if3 .taken)))
 
 -- ---- every term is allowed
 
 abbrev start : tie.Else3 → tie.Start
-start c = c .before .before .before .before .before .before .before .before .before
+start c = c .before .before .before .before .before .before .before
 
 allowed-in : (c : tie.Else3) →
     let a = start c .args in all (termAllowed unknowns (a .forms .now) atMost isZero) (terms (a .picks .now) (a .multipliers .now)) ≡ true
@@ -70,7 +94,7 @@ allowed-in c = sym (c .before .terms-allowed .ensures) ∙ not-false _ (c .if3 .
 
 past-allowed : (c : tie.Else3) →
     let a = start c .args in
-    let cs = farkasTests unknowns (a .s) (a .forms .now) (a .picks .now) (a .multipliers .now) in Left cs (drop 3 cs)
+    let cs = farkasTests unknowns (a .count) (a .forms .now) (a .picks .now) (a .multipliers .now) in Left cs (drop 3 cs)
 past-allowed c = let e = c .before .before in past (past (past whole (forms-in (e .before .before))) (ascends e)) (allowed-in c)
 
 combine-requires : tie.Need-combine-requires

@@ -1,0 +1,152 @@
+// Changes a trial by hand, and prints parts of it. What is changed or printed is named by a word, of which the first letter counts; the
+// numbers stand at the record's end.
+use crate::trial::FORM_ROOM;
+use crate::trial::LINE_ROOM;
+use crate::trial::Lengths;
+use crate::trial::POOL_ROOM;
+use crate::trial::Trial;
+use printing::print;
+use printing::print_numbers;
+use records::numbers::byte_at;
+use records::numbers::i32_at;
+use records::numbers::u16_at;
+use session::state::Mark;
+use session::state::Session;
+
+fn print_bad() {
+    print(b"bad step\n");
+}
+
+// Nothing is done.
+pub fn bad(trial: Trial) -> Trial {
+    print_bad();
+    trial
+}
+
+// The number of two bytes that begins so many bytes before the end, 0 if there is none.
+fn number(record: &[u8], back: usize) -> u16 {
+    if back < 2 {
+        return 0;
+    }
+    if record.len() < back {
+        return 0;
+    }
+    u16_at(record, record.len() - back)
+}
+
+fn place(record: &[u8], back: usize) -> usize {
+    number(record, back) as usize
+}
+
+// tables: how many cells of the forms, the pool and the lines are lent.
+pub fn with_lengths(mut trial: Trial, record: &[u8]) -> Trial {
+    let lengths = Lengths {
+        forms: place(record, 6),
+        pool: place(record, 4),
+        lines: place(record, 2),
+    };
+    trial.lengths = lengths;
+    trial
+}
+
+fn with_counts(mut trial: Trial, record: &[u8]) -> Trial {
+    let mut session = trial.session;
+    session.forms = number(record, 8);
+    session.lines = number(record, 6);
+    session.literals = number(record, 4);
+    session.open = number(record, 2);
+    trial.session = session;
+    trial
+}
+
+fn with_mark(mut trial: Trial, record: &[u8]) -> Trial {
+    let mut session = trial.session;
+    let mark = Mark {
+        forms: number(record, 6),
+        lines: number(record, 4),
+        literals: number(record, 2),
+    };
+    let level = place(record, 8);
+    if Session::MOST_LEVELS <= level {
+        return bad(trial);
+    }
+    session.marks[level] = mark;
+    trial.session = session;
+    trial
+}
+
+// A cell of the forms has four bytes.
+fn with_form_cell(mut trial: Trial, record: &[u8]) -> Trial {
+    let at = place(record, 6);
+    if record.len() < 4 {
+        return bad(trial);
+    }
+    if FORM_ROOM <= at {
+        return bad(trial);
+    }
+    trial.forms[at] = i32_at(record, record.len() - 4);
+    trial
+}
+
+fn with_pool_cell(mut trial: Trial, record: &[u8]) -> Trial {
+    let at = place(record, 4);
+    if POOL_ROOM <= at {
+        return bad(trial);
+    }
+    trial.pool[at] = number(record, 2);
+    trial
+}
+
+fn with_line_cell(mut trial: Trial, record: &[u8]) -> Trial {
+    let at = place(record, 4);
+    if LINE_ROOM <= at {
+        return bad(trial);
+    }
+    trial.lines[at] = number(record, 2);
+    trial
+}
+
+// change: counts of forms, lines, literals and open levels; mark, a place, forms, lines and literals; or forms, pool or lines, a place and
+// what the cell there becomes.
+pub fn change(trial: Trial, record: &[u8]) -> Trial {
+    match byte_at(record, 0) {
+        b'c' => with_counts(trial, record),
+        b'm' => with_mark(trial, record),
+        b'f' => with_form_cell(trial, record),
+        b'p' => with_pool_cell(trial, record),
+        b'l' => with_line_cell(trial, record),
+        _ => bad(trial),
+    }
+}
+
+// So many cells from this place on.
+fn print_part(word: &[u8], cells: &[u16], from: usize, count: usize) {
+    if cells.len() < from {
+        return print_bad();
+    }
+    if cells.len() - from < count {
+        return print_bad();
+    }
+    let end = from + count;
+    print_numbers(word, &cells[from..end]);
+}
+
+// print: counts; pool or lines, a place and how many cells from there on; or used, the cells of both that are in use.
+pub fn print_named(trial: Trial, record: &[u8]) {
+    let session = trial.session;
+    let pool = trial.pool;
+    let lines = trial.lines;
+    match byte_at(record, 0) {
+        b'c' => print_numbers(
+            b"counts",
+            &[session.forms, session.lines, session.literals, session.open],
+        ),
+        b'p' => print_part(b"pool", &pool, place(record, 4), place(record, 2)),
+        b'l' => print_part(b"lines", &lines, place(record, 4), place(record, 2)),
+        b'u' => {
+            print_part(b"pool", &pool, 0, session.literals as usize);
+            print_part(b"lines", &lines, 0, 2 * (session.lines as usize));
+        }
+        _ => print_bad(),
+    }
+}

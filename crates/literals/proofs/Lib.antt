@@ -1,0 +1,3 @@
+pub mod Filler
+pub mod JoinLaws
+pub mod LessLaws

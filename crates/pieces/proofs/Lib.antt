@@ -1,0 +1,8 @@
+pub mod Moving
+pub mod Stepping
+pub mod RunLaid
+pub mod FrontCut
+pub mod LedgerPieces
+pub mod CellPieces
+pub mod InPieces
+pub mod Room

@@ -1,0 +1,89 @@
+-- One step through a proof file that comes in pieces: a run over the bytes that a buffer holds, with the totals so far, the bytes that stay
+-- for the next piece to come behind them, and whether the file is decided.
+use mathlib.Core.Path.{_≡_}
+use mathlib.Core.Bool.{Bool, not, _&&_, _||_, cond}
+use mathlib.Core.List.{List, _++_}
+use Prim.Native.Nat.{ℕ, _+_, _%_, _^_, _≤_}
+use lib.Dec.{eqb}
+use lib.ListN.{length, take, drop}
+use Rattle.session.specs.declared.state.Session.{Session}
+use Rattle.session.specs.Cells.{Tables}
+use Rattle.stream.specs.Run.{Totals, run}
+use Rattle.pieces.specs.declared.Next as code
+use Rattle.pieces.specs.declared.Next.the-variants.{GoesOn, Decided}
+use Rattle.pieces.specs.declared.Judged.{Judged}
+
+-- the file goes on behind so many bytes, which stay at the buffer's front; or its stopping number is decided
+pub data Next : Type 0 where
+  goesOn : ℕ → Next
+  decided : ℕ → Next
+
+pub record Step : Type 0 where
+  pub records : ℕ
+  pub bytes : ℕ
+  pub session : Session
+  pub tables : Tables
+  pub buffer : List ℕ
+  pub next : Next
+
+-- totals have 64 bits, and begin again at 0
+abbrev pub total : ℕ → ℕ
+total n = n % 2 ^ 64
+
+-- a run that came to its end, or to a record that is cut off, may go on with more bytes, and no other
+abbrev pub mayGoOn : ℕ → Bool
+mayGoOn stop = eqb stop 0 || eqb stop 3
+
+abbrev pub nextBy : ℕ → Bool → ℕ → Next
+nextBy stop last kept = cond (not last && mayGoOn stop) (goesOn kept) (decided stop)
+
+-- what is to be read again comes to the front, and what lies behind that stays
+abbrev pub moved : List ℕ → List ℕ → List ℕ
+moved rest buffer = rest ++ drop (length rest) buffer
+
+abbrev pub stepBy : Totals → ℕ → ℕ → List ℕ → List ℕ → Bool → Step
+stepBy r records bytes buffer rest last =
+    record {
+      records = total (records + r .records);
+      bytes = total (bytes + r .bytes);
+      session = r .session;
+      tables = r .tables;
+      buffer = moved rest buffer;
+      next = nextBy (r .stop) last (length rest);
+    }
+
+-- so many records and bytes were accepted before; the buffer holds count bytes, or as many as it has; and they may be the file's last
+unfoldable pub step : ℕ → ℕ → ℕ → Session → Tables → List ℕ → ℕ → Bool → Step
+step n records bytes s t buffer count last =
+    let held = take count buffer in
+    let r = run n s t held in
+    stepBy r records bytes buffer (drop (r .bytes) held) last
+
+-- ---- the parts of the code
+
+-- r bytes are what a buffer holds of count
+pub record Holding (count : ℕ) (buffer : List ℕ) (r : ℕ) : Type 0 where
+  pub within : r ≤ length buffer
+  pub held : take r buffer ≡ take count buffer
+
+-- the rest is moved to the front of the buffer, and r says how long it is
+pub record Kept (rest buffer : List ℕ) (r : ℕ) (exit : List ℕ) : Type 0 where
+  pub size : r ≡ length rest
+  pub front : exit ≡ moved rest buffer
+
+-- ---- what the code gives, in these terms
+
+abbrev pub nextOf : code.Next → Next
+nextOf (GoesOn kept) = goesOn kept
+nextOf (Decided stop) = decided stop
+
+abbrev pub stepOf : Judged → Tables → List ℕ → Step
+stepOf r t buffer =
+    record {
+      records = r .progress .records;
+      bytes = r .progress .bytes;
+      session = r .progress .session;
+      tables = t;
+      buffer = buffer;
+      next = nextOf (r .next);
+    }

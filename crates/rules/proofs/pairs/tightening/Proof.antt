@@ -1,0 +1,88 @@
+use mathlib.Core.Path.{refl, sym, _∙_}
+use mathlib.Core.List.{[], _∷_}
+use native.Mathlib.Omega.{arith}
+use denote.Ref.{now}
+use borrow.Author.Needs.{needs, sfits-of}
+use borrow.Author.Tests.{not-true, not-false}
+use mir.Syntax.{w32}
+use mir.Val.{toZ, ofZ, SFits}
+use mir.ValLaws.{toZ-ofZ}
+use Rattle.rows.specs.Limits.{unknowns}
+use Rattle.rows.specs.Form.{atMost}
+use Rattle.rows.specs.Conditions.{tightens}
+use Rattle.ledger.specs.Record.{TI}
+use Rattle.ledger.specs.Checks.{bothAre, tests, makes}
+use Rattle.proposals.proofs.Making.{refusing, as-rule}
+use Rattle.rules.specs.Read.{formsIn}
+use Rattle.rules.proofs.FindingWalk.{whole, past, fails, goes-on}
+use Rattle.rules.proofs.FieldLaws.{fails-first, others-decide, of-fields, both-low, both-inside, then-rows}
+use Rattle.rules.proofs.pairs.tightening.Statement.{statement}
+use Rattle.rules.proofs.pairs.tightening.Tie as tie
+
+u16-at-requires : tie.Need-u16-at-requires
+u16-at-requires c κs = search needs
+
+u16-at-requires-2 : tie.Need-u16-at-requires-2
+u16-at-requires-2 c κs = search needs
+
+i32-at-requires : tie.Need-i32-at-requires
+i32-at-requires c κs = search needs
+
+both-are-requires : tie.Need-both-are-requires
+both-are-requires c κs = search needs
+
+enum-known-both : tie.Need-enum-known-both
+enum-known-both c = search needs
+
+returns : tie.Need-returns
+unfolding tests
+returns c = let factor = toZ-ofZ w32 (c .before .before .before .before .i32-at .result) (sfits-of (c .before .before .before .before .i32-at .ok)) ∙ c .before .before .before .before .i32-at .ensures in of-fields unknowns (c .before .before .before .before .before .before .before .before .before .before .args .count) (now (c .before .before .before .before .before .before .before .before .before .before .args .forms)) _ _ _ (λ i. TI (c .before .before .before .before .before .before .u16-at .ensures i) (c .before .before .before .before .before .u16-at2 .ensures i) (factor i)) (λ ls cells. refusing unknowns (formsIn unknowns (c .before .before .before .before .before .before .before .before .before .before .args .count) (now (c .before .before .before .before .before .before .before .before .before .before .args .forms))) ls (TI (c .before .before .before .before .before .before .u16-at .result) (c .before .before .before .before .before .u16-at2 .result) (toZ w32 (ofZ w32 (c .before .before .before .before .i32-at .result)))) cells _ _ (fails-first (bothAre (formsIn unknowns (c .before .before .before .before .before .before .before .before .before .before .args .count) (now (c .before .before .before .before .before .before .before .before .before .before .args .forms))) atMost (c .before .before .before .before .before .before .u16-at .result) atMost (c .before .before .before .before .before .u16-at2 .result)) _ (c .before .before .before .both-are .ensures) (c .before .both .given .1)))
+
+enum-told : tie.Need-enum-told
+enum-told c = search needs
+
+legal-factor-requires : tie.Need-legal-factor-requires
+legal-factor-requires c κs = search needs
+
+returns-2 : tie.Need-returns-2
+unfolding tests
+returns-2 c = let factor = toZ-ofZ w32 (c .before .before .before .before .before .i32-at .result) (sfits-of (c .before .before .before .before .before .i32-at .ok)) ∙ c .before .before .before .before .before .i32-at .ensures in of-fields unknowns (c .before .before .before .before .before .before .before .before .before .before .before .args .count) (now (c .before .before .before .before .before .before .before .before .before .before .before .args .forms)) _ _ _ (λ i. TI (c .before .before .before .before .before .before .before .u16-at .ensures i) (c .before .before .before .before .before .before .u16-at2 .ensures i) (factor i)) (λ ls cells. refusing unknowns (formsIn unknowns (c .before .before .before .before .before .before .before .before .before .before .before .args .count) (now (c .before .before .before .before .before .before .before .before .before .before .before .args .forms))) ls (TI (c .before .before .before .before .before .before .before .u16-at .result) (c .before .before .before .before .before .before .u16-at2 .result) (toZ w32 (ofZ w32 (c .before .before .before .before .before .i32-at .result)))) cells _ _ (others-decide (bothAre (formsIn unknowns (c .before .before .before .before .before .before .before .before .before .before .before .args .count) (now (c .before .before .before .before .before .before .before .before .before .before .before .args .forms))) atMost (c .before .before .before .before .before .before .before .u16-at .result) atMost (c .before .before .before .before .before .before .u16-at2 .result)) _ (c .before .before .before .before .both-are .ensures) (c .before .before .enum-told .given .1) (fails whole (sym (c .before .legal-factor .ensures) ∙ not-true _ (c .if1 .taken)))))
+
+tightens-requires : tie.Need-tightens-requires
+tightens-requires c κs = both-inside (c .before .before .before .before .before .before .before .before .before .before .before .pre .0) atMost atMost (c .before .before .before .before .before .before .before .u16-at .result) (c .before .before .before .before .before .before .u16-at2 .result) (c .before .before .before .before .both-are .ensures) (c .before .before .enum-told .given .1)
+
+holds-requires : tie.Need-holds-requires
+holds-requires c κs = search needs
+
+two-requires : tie.Need-two-requires
+two-requires c κs = (λ _. both-low (c .before .before .before .before .before .before .before .before .before .before .before .before .before .before .before .pre .0) atMost atMost (c .before .before .before .before .before .before .before .before .before .before .before .u16-at .result) (c .before .before .before .before .before .before .before .before .before .before .u16-at2 .result) (c .before .before .before .before .before .before .before .before .both-are .ensures) (c .before .before .before .before .before .before .enum-told .given .1), omega arith, c .before .before .before .before .before .before .before .before .before .before .before .before .before .before .before .pre .2)
+
+same-length : tie.Need-same-length
+same-length c = search needs
+
+same-length-2 : tie.Need-same-length-2
+same-length-2 c = search needs
+
+returns-3 : tie.Need-returns-3
+unfolding tests makes
+returns-3 c = let factor = toZ-ofZ w32 (c .before .before .before .before .before .before .before .before .before .before .before .before .before .before .i32-at .result) (sfits-of (c .before .before .before .before .before .before .before .before .before .before .before .before .before .before .i32-at .ok)) ∙ c .before .before .before .before .before .before .before .before .before .before .before .before .before .before .i32-at .ensures in of-fields unknowns (c .before .before .before .before .before .before .before .before .before .before .before .before .before .before .before .before .before .before .before .before .args .count) (now (c .before .before .before .before .before .before .before .before .before .before .before .before .before .before .before .before .before .before .before .before .args .forms)) _ _ _ (λ i. TI (c .before .before .before .before .before .before .before .before .before .before .before .before .before .before .before .before .u16-at .ensures i) (c .before .before .before .before .before .before .before .before .before .before .before .before .before .before .before .u16-at2 .ensures i) (factor i)) (λ ls cells. as-rule unknowns (formsIn unknowns (c .before .before .before .before .before .before .before .before .before .before .before .before .before .before .before .before .before .before .before .before .args .count) (now (c .before .before .before .before .before .before .before .before .before .before .before .before .before .before .before .before .before .before .before .before .args .forms))) ls (TI (c .before .before .before .before .before .before .before .before .before .before .before .before .before .before .before .before .u16-at .result) (c .before .before .before .before .before .before .before .before .before .before .before .before .before .before .before .u16-at2 .result) (toZ w32 (ofZ w32 (c .before .before .before .before .before .before .before .before .before .before .before .before .before .before .i32-at .result)))) (others-decide (bothAre (formsIn unknowns (c .before .before .before .before .before .before .before .before .before .before .before .before .before .before .before .before .before .before .before .before .args .count) (now (c .before .before .before .before .before .before .before .before .before .before .before .before .before .before .before .before .before .before .before .before .args .forms))) atMost (c .before .before .before .before .before .before .before .before .before .before .before .before .before .before .before .before .u16-at .result) atMost (c .before .before .before .before .before .before .before .before .before .before .before .before .before .before .before .u16-at2 .result)) _ (c .before .before .before .before .before .before .before .before .before .before .before .before .before .both-are .ensures) (c .before .before .before .before .before .before .before .before .before .before .before .enum-told .given .1) (goes-on (past whole (sym (c .before .before .before .before .before .before .before .before .before .before .legal-factor .ensures) ∙ not-false _ (c .before .before .before .before .before .before .before .before .before .if1 .left))) (then-rows (c .before .before .before .before .before .before .before .before .before .before .before .before .before .before .before .before .before .before .before .before .pre .0) atMost atMost (c .before .before .before .before .before .before .before .before .before .before .before .before .before .before .before .before .u16-at .result) (c .before .before .before .before .before .before .before .before .before .before .before .before .before .before .before .u16-at2 .result) (c .before .before .before .before .before .before .before .before .before .before .before .before .before .both-are .ensures) (c .before .before .before .before .before .before .before .before .before .before .before .enum-told .given .1) (tightens (toZ w32 (ofZ w32 (c .before .before .before .before .before .before .before .before .before .before .before .before .before .before .i32-at .result)))) (c .before .before .before .before .before .before .before .before .tightens .ensures) (c .before .before .before .before .before .before .before .holds .ensures)))) refl (c .before .before .before .before .two .ensures cells))
+
+pub tightening-spec : {M : Type 1} → statement M
+tightening-spec =
+    tie.close
+    (tie.spec
+    u16-at-requires
+    u16-at-requires-2
+    i32-at-requires
+    both-are-requires
+    enum-known-both
+    returns
+    enum-told
+    legal-factor-requires
+    returns-2
+    tightens-requires
+    holds-requires
+    two-requires
+    same-length
+    same-length-2
+    returns-3)

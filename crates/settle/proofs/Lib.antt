@@ -1,0 +1,2 @@
+pub mod OnLedger
+pub mod Tops

@@ -1,7 +1,7 @@
 // One record, of any bytes, on any session and any tables.
 ghost use mathlib.Core.Path.{_≡_};
 ghost use Rattle.rows.specs.Limits.{unknowns};
-ghost use Rattle.session.specs.Cells.{tables};
+ghost use Rattle.session.specs.Cells.{asGiven, asLent, asLeft};
 ghost use Rattle.laid.specs.Held.{Held};
 ghost use Rattle.records.specs.Marks.{recordMarkOf, OfMark};
 ghost use Rattle.checker.specs.Feed.{resultOf, stepped, feed};
@@ -21,8 +21,8 @@ fn marked(
     bytes: &[u8],
     m: RecordMark,
 ) -> Fed
-    requires { ⌜ Held unknowns s (tables (now forms) (now pool) (now lines)) × OfMark (now bytes) (recordMarkOf m) ⌝ }
-    ensures { λ r. ⌜ resultOf r (tables (now (forms .exit)) (now (pool .exit)) (now (lines .exit))) ≡ stepped unknowns s (tables (now (forms .entry)) (now (pool .entry)) (now (lines .entry))) (now (bytes .entry)) ⌝ }
+    requires { ⌜ Held unknowns s (asGiven forms pool lines) × OfMark (now bytes) (recordMarkOf m) ⌝ }
+    ensures { λ r. ⌜ resultOf r (asLeft forms pool lines) ≡ stepped unknowns s (asLent forms pool lines) (now (bytes .entry)) ⌝ }
 {
     let mut cells = [0i32; Session::MOST_TERMS];
     let mut first = [0u16; Session::LONGEST_LINE];
@@ -62,8 +62,8 @@ fn marked(
 
 // Any bytes, on such tables.
 fn step(s: Session, forms: &mut [i32], pool: &mut [u16], lines: &mut [u16], bytes: &[u8]) -> Fed
-    requires { ⌜ Held unknowns s (tables (now forms) (now pool) (now lines)) ⌝ }
-    ensures { λ r. ⌜ resultOf r (tables (now (forms .exit)) (now (pool .exit)) (now (lines .exit))) ≡ stepped unknowns s (tables (now (forms .entry)) (now (pool .entry)) (now (lines .entry))) (now (bytes .entry)) ⌝ }
+    requires { ⌜ Held unknowns s (asGiven forms pool lines) ⌝ }
+    ensures { λ r. ⌜ resultOf r (asLeft forms pool lines) ≡ stepped unknowns s (asLent forms pool lines) (now (bytes .entry)) ⌝ }
 {
     match records::shape::read_shape(bytes) {
         Shape::Wrong(why) => crate::keep::refuse(s, why),
@@ -73,7 +73,7 @@ fn step(s: Session, forms: &mut [i32], pool: &mut [u16], lines: &mut [u16], byte
 
 // The session is given by value and comes back; the tables are lent. Whatever they hold, nothing has to be tested first.
 pub fn feed(s: Session, forms: &mut [i32], pool: &mut [u16], lines: &mut [u16], bytes: &[u8]) -> Fed
-    ensures { λ r. ⌜ resultOf r (tables (now (forms .exit)) (now (pool .exit)) (now (lines .exit))) ≡ feed unknowns s (tables (now (forms .entry)) (now (pool .entry)) (now (lines .entry))) (now (bytes .entry)) ⌝ }
+    ensures { λ r. ⌜ resultOf r (asLeft forms pool lines) ≡ feed unknowns s (asLent forms pool lines) (now (bytes .entry)) ⌝ }
 {
     let verdict = order::entered(s, forms, pool, lines);
     if let Verdict::Fail(why) = verdict {

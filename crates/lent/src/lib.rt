@@ -2,7 +2,7 @@
 ghost use mathlib.Core.Path.{_≡_};
 ghost use Rattle.rows.specs.Limits.{unknowns};
 ghost use Rattle.session.specs.Answers.{answerOf};
-ghost use Rattle.session.specs.Cells.{tables};
+ghost use Rattle.session.specs.Cells.{asLent, asLeft};
 ghost use Rattle.checker.specs.Feed.{feed};
 use session::answers::Answer;
 use session::state::Session;
@@ -21,8 +21,8 @@ pub fn feed_lent(
     lines: &mut [u16],
     bytes: &[u8],
 ) -> Answer
-    ensures { λ r. ⌜ record { answer = answerOf r; session = now (session .exit); tables = tables (now (forms .exit)) (now (pool .exit)) (now (lines .exit)) }
-        ≡ feed unknowns (now (session .entry)) (tables (now (forms .entry)) (now (pool .entry)) (now (lines .entry))) (now (bytes .entry)) ⌝ }
+    ensures { λ r. ⌜ record { answer = answerOf r; session = now (session .exit); tables = asLeft forms pool lines }
+        ≡ feed unknowns (now (session .entry)) (asLent forms pool lines) (now (bytes .entry)) ⌝ }
 {
     let before = *session;
     let fed = checker::feed::feed(before, forms, pool, lines, bytes);
@@ -39,8 +39,8 @@ pub fn feed_by_lending(
     lines: &mut [u16],
     bytes: &[u8],
 ) -> Returned
-    ensures { λ r. ⌜ record { answer = answerOf (r .answer); session = r .session; tables = tables (now (forms .exit)) (now (pool .exit)) (now (lines .exit)) }
-        ≡ feed unknowns s (tables (now (forms .entry)) (now (pool .entry)) (now (lines .entry))) (now (bytes .entry)) ⌝ }
+    ensures { λ r. ⌜ record { answer = answerOf (r .answer); session = r .session; tables = asLeft forms pool lines }
+        ≡ feed unknowns s (asLent forms pool lines) (now (bytes .entry)) ⌝ }
 {
     let mut session = s;
     let answer = feed_lent(&mut session, forms, pool, lines, bytes);

@@ -6,7 +6,7 @@ pub mod standing;
 ghost use mathlib.Core.Path.{_≡_};
 ghost use Prim.Native.Nat.{_*_};
 ghost use Rattle.rows.specs.Limits.{unknowns};
-ghost use Rattle.session.specs.Cells.{tables, named};
+ghost use Rattle.session.specs.Cells.{named, asLent};
 ghost use Rattle.session.specs.InOrder.{order, allPass};
 ghost use Rattle.session.specs.Answers.{findingOf};
 ghost use Rattle.session.specs.Calls.{entry};
@@ -34,7 +34,7 @@ fn counts_hold(s: Session) -> bool
 // The whole test, over the named cells.
 fn ordered(s: Session, forms: &[i32], pool: &[u16], lines: &[u16]) -> bool
     requires { ⌜ Sized unknowns (now forms) (now pool) (now lines) ⌝ }
-    ensures { λ r. ⌜ r ≡ allPass (order unknowns s (tables (now (forms .entry)) (now (pool .entry)) (now (lines .entry)))) ⌝ }
+    ensures { λ r. ⌜ r ≡ allPass (order unknowns s (asLent forms pool lines)) ⌝ }
 {
     if !counts_hold(s) {
         return false;
@@ -64,7 +64,7 @@ fn ordered(s: Session, forms: &[i32], pool: &[u16], lines: &[u16]) -> bool
 // Whether session and tables are in order; of longer tables the excess is not read.
 fn in_order(s: Session, forms: &[i32], pool: &[u16], lines: &[u16]) -> bool
     requires { ⌜ Long unknowns (now forms) (now pool) (now lines) ⌝ }
-    ensures { λ r. ⌜ r ≡ allPass (order unknowns s (named unknowns (tables (now (forms .entry)) (now (pool .entry)) (now (lines .entry))))) ⌝ }
+    ensures { λ r. ⌜ r ≡ allPass (order unknowns s (named unknowns (asLent forms pool lines))) ⌝ }
 {
     ordered(
         s,
@@ -76,7 +76,7 @@ fn in_order(s: Session, forms: &[i32], pool: &[u16], lines: &[u16]) -> bool
 
 // What every call tests first: the sizes of the tables, and then that session and tables are in order.
 pub fn entered(s: Session, forms: &[i32], pool: &[u16], lines: &[u16]) -> Verdict
-    ensures { λ r. ⌜ findingOf r ≡ entry unknowns s (tables (now (forms .entry)) (now (pool .entry)) (now (lines .entry))) ⌝ }
+    ensures { λ r. ⌜ findingOf r ≡ entry unknowns s (asLent forms pool lines) ⌝ }
 {
     let size = session::start::sized(forms, pool, lines);
     if let Verdict::Fail(why) = size {

@@ -4,7 +4,7 @@ ghost use Prim.Native.Nat.{_≤_};
 ghost use lib.ListN.{length, take, drop};
 ghost use Rattle.rows.specs.Limits.{unknowns};
 ghost use Rattle.session.specs.Answers.{findingOf};
-ghost use Rattle.session.specs.Cells.{tables};
+ghost use Rattle.session.specs.Cells.{asLent, asLeft};
 ghost use Rattle.stream.specs.Run.{stopNumber};
 ghost use Rattle.pieces.specs.Step.{nextBy, step, Holding, Kept, nextOf, stepOf};
 use session::answers::Verdict;
@@ -88,8 +88,8 @@ pub fn judge_piece(
     count: usize,
     last: bool,
 ) -> Judged
-    ensures { λ r. ⌜ stepOf r (tables (now (forms .exit)) (now (pool .exit)) (now (lines .exit))) (now (buffer .exit))
-        ≡ step unknowns (progress .records) (progress .bytes) (progress .session) (tables (now (forms .entry)) (now (pool .entry)) (now (lines .entry))) (now (buffer .entry)) count last ⌝ }
+    ensures { λ r. ⌜ stepOf r (asLeft forms pool lines) (now (buffer .exit))
+        ≡ step unknowns (progress .records) (progress .bytes) (progress .session) (asLent forms pool lines) (now (buffer .entry)) count last ⌝ }
 {
     let end = holding(buffer, count);
     let held = &buffer[0..end];

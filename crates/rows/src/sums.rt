@@ -1,4 +1,4 @@
-// The sum of picked rows, each its multiplier times: one routine for FK and for CL, over a modulus that is 0 for FK.
+// The sum of picked rows, each its multiplier times, over a modulus: of modulus 0 only 0 is a multiple.
 ghost use mathlib.Core.Path.{_≡_};
 ghost use Prim.Native.Nat.{_+_, _<_};
 ghost use Rattle.rows.specs.Limits.{unknowns};

@@ -3,13 +3,17 @@ use mathlib.Core.Bool.{cond}
 use mathlib.Core.List.{List, [], _∷_, _++_}
 use Prim.Native.Nat.{ℕ, zero, suc, _+_, _*_, _-_}
 use lib.Dec.{ltb}
-use lib.IntN.{ℤ}
+use lib.IntN.{ℤ, pos}
 use lib.ListN.{getD, take, drop, replicate}
+use denote.Ref.{RefT, now}
+use denote.Triple.Both.{Both}
 use Rattle.rows.specs.Form.{formAt}
-use Rattle.ledger.specs.Limits.{mostLevels}
+use Rattle.rows.specs.Limits.{unknowns, largestNumber, largestDivisor, largestMultiplier, mostTerms}
+use Rattle.ledger.specs.Limits.{mostForms, mostLines, mostLiterals, mostLevels, longestLine}
 use Rattle.ledger.specs.Ledger.{Line, Ledger, Mark as LedgerMark}
 use Rattle.session.specs.declared.state.Mark.{Mark}
 use Rattle.session.specs.declared.state.Session.{Session}
+use Rattle.session.specs.declared.state.Limits.{Limits}
 use Rattle.session.specs.Limits.{lineCells, formTable, poolTable, lineTable}
 
 pub record Tables : Type 0 where
@@ -19,6 +23,16 @@ pub record Tables : Type 0 where
 
 abbrev pub tables : List ℤ → List ℕ → List ℕ → Tables
 tables f p l = record { forms = f; pool = p; lines = l }
+
+-- the lent tables: as a requirement finds them, as they were lent, and as they are left
+abbrev pub asGiven : RefT (List ℤ) → RefT (List ℕ) → RefT (List ℕ) → Tables
+asGiven f p l = tables (now f) (now p) (now l)
+
+abbrev pub asLent : {X Y Z : Type 0} → Both (RefT (List ℤ)) X → Both (RefT (List ℕ)) Y → Both (RefT (List ℕ)) Z → Tables
+asLent f p l = asGiven (f .entry) (p .entry) (l .entry)
+
+abbrev pub asLeft : {X Y Z : Type 0} → Both X (RefT (List ℤ)) → Both Y (RefT (List ℕ)) → Both Z (RefT (List ℕ)) → Tables
+asLeft f p l = asGiven (f .exit) (p .exit) (l .exit)
 
 -- the cells that have a name
 abbrev pub named : ℕ → Tables → Tables
@@ -35,6 +49,21 @@ withExcess t x = tables (t .forms ++ x .forms) (t .pool ++ x .pool) (t .lines ++
 
 abbrev pub noMark : Mark
 noMark = record { forms = 0; lines = 0; literals = 0 }
+
+abbrev pub allLimits : Limits
+allLimits =
+    record {
+      unknowns = unknowns;
+      number = pos largestNumber;
+      divisor = pos largestDivisor;
+      multiplier = pos largestMultiplier;
+      terms = mostTerms;
+      forms = mostForms;
+      lines = mostLines;
+      literals = mostLiterals;
+      levels = mostLevels;
+      line = longestLine;
+    }
 
 abbrev pub freshSession : Session
 freshSession = record { forms = 0; lines = 0; literals = 0; «open» = 0; marks = replicate mostLevels noMark }

@@ -1,7 +1,7 @@
 // The start: every named cell becomes 0.
 ghost use mathlib.Core.Path.{_≡_};
 ghost use Rattle.rows.specs.Limits.{unknowns};
-ghost use Rattle.session.specs.Cells.{tables};
+ghost use Rattle.session.specs.Cells.{asLent, asLeft};
 ghost use Rattle.session.specs.Calls.{start, beginningOf};
 ghost use Rattle.session.specs.InOrder.{sizes};
 ghost use Rattle.session.specs.Answers.{findingOf};
@@ -18,7 +18,7 @@ pub struct Begun {
 
 // Whether the tables have their named cells.
 pub fn sized(forms: &[i32], pool: &[u16], lines: &[u16]) -> Verdict
-    ensures { λ r. ⌜ findingOf r ≡ finding (sizes unknowns (tables (now (forms .entry)) (now (pool .entry)) (now (lines .entry)))) ⌝ }
+    ensures { λ r. ⌜ findingOf r ≡ finding (sizes unknowns (asLent forms pool lines)) ⌝ }
 {
     if forms.len() < Session::FORM_TABLE {
         return Verdict::Fail(Refusal::ShortTable);
@@ -34,7 +34,7 @@ pub fn sized(forms: &[i32], pool: &[u16], lines: &[u16]) -> Verdict
 
 // A fresh session over tables that are 0 throughout; of short tables nothing is written.
 pub fn start(forms: &mut [i32], pool: &mut [u16], lines: &mut [u16]) -> Begun
-    ensures { λ r. ⌜ beginningOf r (tables (now (forms .exit)) (now (pool .exit)) (now (lines .exit))) ≡ start unknowns (tables (now (forms .entry)) (now (pool .entry)) (now (lines .entry))) ⌝ }
+    ensures { λ r. ⌜ beginningOf r (asLeft forms pool lines) ≡ start unknowns (asLent forms pool lines) ⌝ }
 {
     if let Verdict::Fail(why) = sized(forms, pool, lines) {
         return Begun {

@@ -1,12 +1,27 @@
 // The session itself, by value, with its limits: each has one name here, and those of rows and forms are taken from the rows.
 ghost use mathlib.Core.Path.{_≡_};
-ghost use Rattle.session.specs.Cells.{freshSession, countsOf};
+ghost use Rattle.session.specs.Cells.{freshSession, countsOf, allLimits};
 
 // The counts as a level opened.
 pub struct Mark {
     pub forms: u16,
     pub lines: u16,
     pub literals: u16,
+}
+
+// The limits of a session: the unknowns; the size of a constant or coefficient, of a divisor and of a multiplier; the most terms of a sum,
+// forms, lines, literals of all lines together and open levels; and the most literals of a line.
+pub struct Limits {
+    pub unknowns: usize,
+    pub number: i32,
+    pub divisor: i32,
+    pub multiplier: i32,
+    pub terms: usize,
+    pub forms: usize,
+    pub lines: usize,
+    pub literals: usize,
+    pub levels: usize,
+    pub line: usize,
 }
 
 // How much of each table is in use, and the marks of the open levels.
@@ -59,6 +74,24 @@ impl Session {
     pub const POOL: usize = Session::MOST_LITERALS;
 
     pub const LINE_TABLE: usize = Session::MOST_LINES * Session::LINE_CELLS;
+
+    // All limits together, which ties each of them to its one definition.
+    pub fn limits() -> Limits
+        ensures { λ r. ⌜ r ≡ allLimits ⌝ }
+    {
+        Limits {
+            unknowns: Session::UNKNOWNS,
+            number: Session::LARGEST_NUMBER,
+            divisor: Session::LARGEST_DIVISOR,
+            multiplier: Session::LARGEST_MULTIPLIER,
+            terms: Session::MOST_TERMS,
+            forms: Session::MOST_FORMS,
+            lines: Session::MOST_LINES,
+            literals: Session::MOST_LITERALS,
+            levels: Session::MOST_LEVELS,
+            line: Session::LONGEST_LINE,
+        }
+    }
 
     // A session with nothing in it.
     pub fn fresh() -> Session

@@ -7,7 +7,7 @@ ghost use Rattle.ledger.specs.Limits.{mostLevels};
 ghost use Rattle.ledger.specs.Literals.{joined};
 ghost use Rattle.ledger.specs.Apply.{opens, withdraws};
 ghost use Rattle.session.specs.Limits.{formCells, formTable};
-ghost use Rattle.session.specs.Cells.{Tables, tables};
+ghost use Rattle.session.specs.Cells.{Tables, asGiven, asLent, asLeft};
 ghost use Rattle.session.specs.Answers.{answerOf};
 ghost use Rattle.proposals.specs.Proposing.{proposalOf, Fits};
 ghost use Rattle.settle.specs.Settling.{withCounts, withLevels, after, answerBy, InPlace, Seen, Settles, LineTables, KeepsForm, KeepsLine};
@@ -169,8 +169,8 @@ fn open_level(top: Top) -> Change
 
 // One level less: the counts return to the last mark, and every freed cell and the mark become 0.
 fn close_level(top: Top, forms: &mut [i32], pool: &mut [u16], lines: &mut [u16]) -> Change
-    requires { ⌜ Seen unknowns top (tables (now forms) (now pool) (now lines)) ⌝ }
-    ensures { λ r. ⌜ Settles unknowns top (tables (now (forms .entry)) (now (pool .entry)) (now (lines .entry))) withdraws r (tables (now (forms .exit)) (now (pool .exit)) (now (lines .exit))) ⌝ }
+    requires { ⌜ Seen unknowns top (asGiven forms pool lines) ⌝ }
+    ensures { λ r. ⌜ Settles unknowns top (asLent forms pool lines) withdraws r (asLeft forms pool lines) ⌝ }
 {
     if top.open == 0 {
         return Change::Refused(Refusal::NoLevelOpen);
@@ -201,8 +201,8 @@ pub fn settle(
     first: &[u16],
     second: &[u16],
 ) -> Change
-    requires { ⌜ Seen unknowns top (tables (now forms) (now pool) (now lines)) × (length (now cells) ≡ formCells unknowns) × Fits p (now first) (now second) ⌝ }
-    ensures { λ r. ⌜ Settles unknowns top (tables (now (forms .entry)) (now (pool .entry)) (now (lines .entry))) (proposalOf p (now (cells .entry)) (now (first .entry)) (now (second .entry))) r (tables (now (forms .exit)) (now (pool .exit)) (now (lines .exit))) ⌝ }
+    requires { ⌜ Seen unknowns top (asGiven forms pool lines) × (length (now cells) ≡ formCells unknowns) × Fits p (now first) (now second) ⌝ }
+    ensures { λ r. ⌜ Settles unknowns top (asLent forms pool lines) (proposalOf p (now (cells .entry)) (now (first .entry)) (now (second .entry))) r (asLeft forms pool lines) ⌝ }
 {
     match p {
         Proposal::Refused(why) => Change::Refused(why),

@@ -3,7 +3,7 @@ ghost use mathlib.Core.Path.{_≡_};
 ghost use Rattle.rows.specs.Limits.{unknowns};
 ghost use Rattle.ledger.specs.Run.{recordsOf};
 ghost use Rattle.session.specs.Answers.{numberOf};
-ghost use Rattle.session.specs.Cells.{Tables, tables};
+ghost use Rattle.session.specs.Cells.{Tables, asGiven, asLent, asLeft};
 ghost use Rattle.laid.specs.Held.{Held};
 ghost use Rattle.checker.specs.Feed.{stepped};
 ghost use Rattle.stream.specs.Run.{totals, eachBy, run, totalsOf};
@@ -36,8 +36,8 @@ fn stopped(s: Session, records: usize, bytes: usize, why: Refusal) -> Ran
 // The records of a stream on tables that are cut to their named cells and in order. The session stays in one place while they pass: copying
 // it for each of them costs more than what most of them do.
 fn steps(s: Session, forms: &mut [i32], pool: &mut [u16], lines: &mut [u16], stream: &[u8]) -> Ran
-    requires { ⌜ Held unknowns s (tables (now forms) (now pool) (now lines)) ⌝ }
-    ensures { λ r. ⌜ totalsOf r (tables (now (forms .exit)) (now (pool .exit)) (now (lines .exit))) ≡ eachBy (stepped unknowns) 0 0 s (tables (now (forms .entry)) (now (pool .entry)) (now (lines .entry))) (recordsOf (now (stream .entry))) ⌝ }
+    requires { ⌜ Held unknowns s (asGiven forms pool lines) ⌝ }
+    ensures { λ r. ⌜ totalsOf r (asLeft forms pool lines) ≡ eachBy (stepped unknowns) 0 0 s (asLent forms pool lines) (recordsOf (now (stream .entry))) ⌝ }
 {
     let mut cells = [0i32; Session::MOST_TERMS];
     let mut first = [0u16; Session::LONGEST_LINE];
@@ -115,7 +115,7 @@ fn steps(s: Session, forms: &mut [i32], pool: &mut [u16], lines: &mut [u16], str
 
 // 1 and 2 are tested once, and then each record pays only for itself. Whatever session, tables and stream hold, nothing has to be tested first.
 pub fn run(s: Session, forms: &mut [i32], pool: &mut [u16], lines: &mut [u16], stream: &[u8]) -> Ran
-    ensures { λ r. ⌜ totalsOf r (tables (now (forms .exit)) (now (pool .exit)) (now (lines .exit))) ≡ run unknowns s (tables (now (forms .entry)) (now (pool .entry)) (now (lines .entry))) (now (stream .entry)) ⌝ }
+    ensures { λ r. ⌜ totalsOf r (asLeft forms pool lines) ≡ run unknowns s (asLent forms pool lines) (now (stream .entry)) ⌝ }
 {
     let verdict = order::entered(s, forms, pool, lines);
     if let Verdict::Fail(why) = verdict {

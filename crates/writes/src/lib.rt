@@ -3,7 +3,7 @@ ghost use mathlib.Core.Path.{_≡_};
 ghost use Prim.Native.Nat.{_≤_};
 ghost use Rattle.rows.specs.Limits.{unknowns};
 ghost use Rattle.ledger.specs.Literals.{joined};
-ghost use Rattle.session.specs.Cells.{tables};
+ghost use Rattle.session.specs.Cells.{asGiven, asLent, asLeft};
 ghost use Rattle.session.specs.Effects.{written, formWritten, freed, Between};
 ghost use lib.ListN.{length};
 ghost use Rattle.writes.specs.Placing.{FormPlace, LinePlace, LinePlaced};
@@ -55,8 +55,8 @@ pub fn add_line(
 
 // Every cell between two marks becomes 0.
 pub fn free_cells(from: Mark, to: Mark, forms: &mut [i32], pool: &mut [u16], lines: &mut [u16])
-    requires { ⌜ Between unknowns from to (tables (now forms) (now pool) (now lines)) ⌝ }
-    ensures { λ _. ⌜ tables (now (forms .exit)) (now (pool .exit)) (now (lines .exit)) ≡ freed unknowns from to (tables (now (forms .entry)) (now (pool .entry)) (now (lines .entry))) ⌝ }
+    requires { ⌜ Between unknowns from to (asGiven forms pool lines) ⌝ }
+    ensures { λ _. ⌜ asLeft forms pool lines ≡ freed unknowns from to (asLent forms pool lines) ⌝ }
 {
     let first_form = Session::FORM_CELLS * (from.forms as usize);
     let form_end = Session::FORM_CELLS * (to.forms as usize);

@@ -47,31 +47,29 @@ longer k xs ys e = le→leb k (length (xs ++ ys)) (omega (arith, length-append x
 
 -- a legal ledger laid out is held
 pub laid-held : (n : ℕ) (l : Ledger) → Legal n l → Held n (sessionOf l) (tablesOf n l)
-laid-held n l g =
-    let e = laid-sizes n l g in
-    record { form-size = e .forms; pool-size = e .pool; line-size = e .lines; mark-size = e .marks; ordered = laid-in-order n l g }
+laid-held n l g = record { exact = laid-sizes n l g; ordered = laid-in-order n l g }
 
 module _ {n : ℕ} {s : Session} {t : Tables} (h : Held n s t) (x : Tables) where
   pub named-beside : named n (withExcess t x) ≡ t
   named-beside =
       λ i. tables
-      (take-front (formTable n) (t .forms) (x .forms) (h .form-size) i)
-      (take-front poolTable (t .pool) (x .pool) (h .pool-size) i)
-      (take-front lineTable (t .lines) (x .lines) (h .line-size) i)
+      (take-front (formTable n) (t .forms) (x .forms) (h .exact .sized .form-size) i)
+      (take-front poolTable (t .pool) (x .pool) (h .exact .sized .pool-size) i)
+      (take-front lineTable (t .lines) (x .lines) (h .exact .sized .line-size) i)
 
   pub excess-beside : excess n (withExcess t x) ≡ x
   excess-beside =
       λ i. tables
-      (drop-front (formTable n) (t .forms) (x .forms) (h .form-size) i)
-      (drop-front poolTable (t .pool) (x .pool) (h .pool-size) i)
-      (drop-front lineTable (t .lines) (x .lines) (h .line-size) i)
+      (drop-front (formTable n) (t .forms) (x .forms) (h .exact .sized .form-size) i)
+      (drop-front poolTable (t .pool) (x .pool) (h .exact .sized .pool-size) i)
+      (drop-front lineTable (t .lines) (x .lines) (h .exact .sized .line-size) i)
 
   pub entry-beside : entry n s (withExcess t x) ≡ pass
   unfolding sizes
   entry-beside =
       let sized : Passed (sizes n (withExcess t x)) = (
-        longer (formTable n) (t .forms) (x .forms) (h .form-size),
-        (longer poolTable (t .pool) (x .pool) (h .pool-size), (longer lineTable (t .lines) (x .lines) (h .line-size), tt)),
+        longer (formTable n) (t .forms) (x .forms) (h .exact .sized .form-size),
+        (longer poolTable (t .pool) (x .pool) (h .exact .sized .pool-size), (longer lineTable (t .lines) (x .lines) (h .exact .sized .line-size), tt)),
       ) in
       let ordered : Passed (order n s (named n (withExcess t x))) = rw named-beside (h .ordered) in
       passed→pass (sizes n (withExcess t x) ++ order n s (named n (withExcess t x)))

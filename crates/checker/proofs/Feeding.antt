@@ -24,10 +24,16 @@ module _ (n : ℕ) (s : Session) (t : Tables) where
   entry-held e m =
       let long = entry-long n s t e in
       record {
-        form-size = length-take-le (formTable n) (t .forms) (long .form-room);
-        pool-size = length-take-le poolTable (t .pool) (long .pool-room);
-        line-size = length-take-le lineTable (t .lines) (long .line-room);
-        mark-size = m;
+        exact =
+            record {
+              sized =
+                  record {
+                    form-size = length-take-le (formTable n) (t .forms) (long .form-room);
+                    pool-size = length-take-le poolTable (t .pool) (long .pool-room);
+                    line-size = length-take-le lineTable (t .lines) (long .line-room);
+                  };
+              mark-size = m;
+            };
         ordered = passed-back (sizes n t) (order n s (named n t)) (pass→passed (sizes n t ++ order n s (named n t)) e);
       }
 

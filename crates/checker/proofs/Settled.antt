@@ -13,7 +13,7 @@ use Rattle.session.specs.declared.state.Session.{Session}
 use Rattle.session.specs.Cells.{Tables, ledgerOf}
 use Rattle.laid.specs.Held.{Held}
 use Rattle.laid.proofs.OrderLaid.{in-pool}
-use Rattle.laid.proofs.HeldLaws.{held-clauses, held-exact}
+use Rattle.laid.proofs.HeldLaws.{held-clauses}
 use Rattle.records.specs.Marks.{OfMark}
 use Rattle.rules.specs.Read.{FormsHeld, formsIn, LinesHeld, linesIn}
 use Rattle.propose.specs.Ready.{Ready}
@@ -22,17 +22,17 @@ use Rattle.settle.specs.Settling.{unchanged, settled, resultBy, Gives}
 use Rattle.checker.specs.Feed.{stepped}
 
 held-forms : {n : ℕ} {s : Session} {t : Tables} → Held n s t → FormsHeld n (s .forms) (t .forms)
-held-forms h = record { size = h .form-size; few = held-clauses h .few-forms; contents = held-clauses h .contents }
+held-forms h = record { size = h .exact .sized .form-size; few = held-clauses h .few-forms; contents = held-clauses h .contents }
 
 held-lines : {n : ℕ} {s : Session} {t : Tables} → Held n s t → LinesHeld (s .lines) (t .pool) (t .lines)
 held-lines {n} {s} {t} h =
     let c = held-clauses h in
     record {
-      size = h .line-size;
+      size = h .exact .sized .line-size;
       few = c .few-lines;
       rise = c .rise;
       short = c .short;
-      inside = λ i k. in-pool n s t (held-exact h) (h .ordered) (suc i) k;
+      inside = λ i k. in-pool n s t (h .exact) (h .ordered) (suc i) k;
     }
 
 pub held-ready : {n : ℕ} {s : Session} {t : Tables} {cells : List ℤ} {xs ys : List ℕ} → Held n s t → length cells ≡ mostTerms

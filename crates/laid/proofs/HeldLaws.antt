@@ -11,24 +11,20 @@ use Rattle.session.proofs.Clauses.{Clauses, clauses}
 use Rattle.laid.specs.Laid.{tablesOf, sessionOf}
 use Rattle.laid.specs.Held.{Held}
 use Rattle.laid.proofs.ByIndex.{length-upTo}
-use Rattle.laid.proofs.Sizes.{Exact}
 use Rattle.laid.proofs.OrderLaid.{legal-back, laid-back}
 
 module _ {n : ℕ} {s : Session} {t : Tables} (h : Held n s t) where
   pub held-clauses : Clauses n s t
   held-clauses = clauses (h .ordered)
 
-  pub held-exact : Exact n s t
-  held-exact = record { forms = h .form-size; pool = h .pool-size; lines = h .line-size; marks = h .mark-size }
-
   pub held-legal : Legal n (ledgerOf n s t)
-  held-legal = legal-back n s t held-exact (h .ordered)
+  held-legal = legal-back n s t (h .exact) (h .ordered)
 
   pub held-session : sessionOf (ledgerOf n s t) ≡ s
-  held-session = laid-back n s t held-exact (h .ordered) .0
+  held-session = laid-back n s t (h .exact) (h .ordered) .0
 
   pub held-tables : tablesOf n (ledgerOf n s t) ≡ t
-  held-tables = laid-back n s t held-exact (h .ordered) .1
+  held-tables = laid-back n s t (h .exact) (h .ordered) .1
 
   pub form-count : length (ledgerOf n s t .forms) ≡ s .forms
   unfolding ledgerOf

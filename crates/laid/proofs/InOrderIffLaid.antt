@@ -9,7 +9,7 @@ use Rattle.session.specs.declared.state.Session.{Session}
 use Rattle.session.specs.Cells.{Tables, ledgerOf}
 use Rattle.session.specs.InOrder.{order}
 use Rattle.laid.specs.Laid.{tablesOf, sessionOf}
-use Rattle.laid.proofs.Sizes.{Exact}
+use Rattle.laid.specs.Held.{Exact}
 use Rattle.laid.proofs.LegalLaid.{read-back, laid-in-order}
 use Rattle.laid.proofs.OrderLaid.{laid-back, legal-back}
 

@@ -30,7 +30,7 @@ use Rattle.session.proofs.Clauses.{notAbove→le, Clauses, clauses}
 use Rattle.laid.specs.Laid.{padded, formsLaid, poolLaid, linesLaid, tablesOf, marksLaid, sessionOf}
 use Rattle.laid.proofs.ByIndex.{length-upTo, getD-upTo, take-upTo, all-upTo, length-downFrom, padded-front}
 use Rattle.laid.proofs.LaidParts.{forms-append, pool-append, lines-append}
-use Rattle.laid.proofs.Sizes.{Exact}
+use Rattle.laid.specs.Held.{Exact}
 
 cells-back : (c : List ℤ) → 2 ≤ length c → cellsOf (formOf c) ≡ c
 cells-back [] h = absurd (omega arith)
@@ -78,7 +78,7 @@ module _ (n : ℕ) (s : Session) (t : Tables) (e : Exact n s t) (p : Passed (ord
       ]
 
   pub in-pool : (i : ℕ) → i ≤ s .lines → ends i ≤ length (t .pool)
-  in-pool i h = omega (arith, ends-rise i (s .lines) h (omega arith), c .last, c .few-literals, e .pool)
+  in-pool i h = omega (arith, ends-rise i (s .lines) h (omega arith), c .last, c .few-literals, e .sized .pool-size)
 
   length-literals : (i : ℕ) → i < s .lines → length (literalsAt (t .pool) (t .lines) i) ≡ ends (suc i) - ends i
   length-literals i h = simp (length-take, length-drop) (omega (arith, in-pool (suc i) h, c .rise i h))
@@ -100,7 +100,7 @@ module _ (n : ℕ) (s : Session) (t : Tables) (e : Exact n s t) (p : Passed (ord
   unfolding upTo linesLaid
   lines-back zero h = refl
   lines-back (suc k) h =
-      let room : lineCells * k + 1 < length (t .lines) = omega (arith, c .few-lines, e .lines) in
+      let room : lineCells * k + 1 < length (t .lines) = omega (arith, c .few-lines, e .sized .line-size) in
       let q : lineCells * suc k ≡ lineCells * k + lineCells = omega arith in
       let before = count-back k (omega arith) in
       let here = length-literals k h in
@@ -118,30 +118,30 @@ module _ (n : ℕ) (s : Session) (t : Tables) (e : Exact n s t) (p : Passed (ord
   unfolding downFrom marksLaid
   marks-back zero h = refl
   marks-back (suc k) h =
-      rw (marks-back k (omega arith), mark-end k h) (sym (take-suc (s .marks) k noMark (omega (arith, e .marks, c .few-levels))))
+      rw (marks-back k (omega arith), mark-end k h) (sym (take-suc (s .marks) k noMark (omega (arith, e .mark-size, c .few-levels))))
 
   -- ---- laid out again
 
   form-cells : padded (pos 0) (formTable n) (formsLaid (upTo (s .forms) (formAt n (t .forms)))) ≡ t .forms
   form-cells =
       let room : formCells n * s .forms ≤ formTable n = omega (arith, mul-le-mul-left (formCells n) (c .few-forms)) in
-      rw (forms-back n (t .forms) (s .forms) (omega (arith, e .forms)))
-      (padded-front (pos 0) _ (λ x. eqZ x (pos 0)) (t .forms) _ (e .forms) room (λ x. eqZ→eq x (pos 0)) (c .forms-zero))
+      rw (forms-back n (t .forms) (s .forms) (omega (arith, e .sized .form-size)))
+      (padded-front (pos 0) _ (λ x. eqZ x (pos 0)) (t .forms) _ (e .sized .form-size) room (λ x. eqZ→eq x (pos 0)) (c .forms-zero))
 
   pool-cells : padded 0 poolTable (poolLaid (lines (s .lines))) ≡ t .pool
   pool-cells =
       rw (pool-back (s .lines) (omega arith), c .last)
-      (padded-front 0 _ (λ x. eqb x 0) (t .pool) _ (e .pool) (c .few-literals) (λ x. eqb→eq x 0) (c .pool-zero))
+      (padded-front 0 _ (λ x. eqb x 0) (t .pool) _ (e .sized .pool-size) (c .few-literals) (λ x. eqb→eq x 0) (c .pool-zero))
 
   line-cells : padded 0 lineTable (linesLaid 0 (lines (s .lines))) ≡ t .lines
   line-cells =
       let room : lineCells * s .lines ≤ lineTable = omega (arith, c .few-lines) in
       rw (lines-back (s .lines) (omega arith))
-      (padded-front 0 _ (λ x. eqb x 0) (t .lines) _ (e .lines) room (λ x. eqb→eq x 0) (c .lines-zero))
+      (padded-front 0 _ (λ x. eqb x 0) (t .lines) _ (e .sized .line-size) room (λ x. eqb→eq x 0) (c .lines-zero))
 
   mark-cells : padded noMark mostLevels (marksLaid (lines (s .lines)) (downFrom (s .«open») (levelAt s))) ≡ s .marks
   mark-cells =
-      rw (marks-back (s .«open») (omega arith)) (padded-front noMark _ isNoMark (s .marks) _ (e .marks) (c .few-levels) no-mark (c .marks-zero))
+      rw (marks-back (s .«open») (omega arith)) (padded-front noMark _ isNoMark (s .marks) _ (e .mark-size) (c .few-levels) no-mark (c .marks-zero))
 
   form-count : length (upTo (s .forms) (formAt n (t .forms))) ≡ s .forms
   form-count = length-upTo (s .forms) (formAt n (t .forms))

@@ -5,13 +5,14 @@ use lib.ListN.{length}
 use Rattle.ledger.specs.Limits.{mostLevels}
 use Rattle.ledger.specs.Checks.{Passed}
 use Rattle.session.specs.declared.state.Session.{Session}
-use Rattle.session.specs.Limits.{formTable, poolTable, lineTable}
-use Rattle.session.specs.Cells.{Tables}
+use Rattle.session.specs.Cells.{Tables, Sized}
 use Rattle.session.specs.InOrder.{order}
 
-pub record Held (n : ℕ) (s : Session) (t : Tables) : Type 0 where
-  pub form-size : length (t .forms) ≡ formTable n
-  pub pool-size : length (t .pool) ≡ poolTable
-  pub line-size : length (t .lines) ≡ lineTable
+-- tables of their named cells and no more, and a mark for each level
+pub record Exact (n : ℕ) (s : Session) (t : Tables) : Type 0 where
+  pub sized : Sized n t
   pub mark-size : length (s .marks) ≡ mostLevels
+
+pub record Held (n : ℕ) (s : Session) (t : Tables) : Type 0 where
+  pub exact : Exact n s t
   pub ordered : Passed (order n s t)

@@ -4,18 +4,18 @@ use mathlib.Core.Path.{_≡_, refl, sym, _∙_}
 use mathlib.Core.Bool.{Bool, true, false, _&&_, cond}
 use mathlib.Core.List.{List, [], _∷_, _++_}
 use Prim.Native.Nat.{ℕ}
-use lib.Dec.{T, eqb, eqb→eq, leb→le}
+use lib.Dec.{T, eqb, eqb→eq}
 use Rattle.ints.specs.Tests.{all}
 use Rattle.ints.proofs.Bools.{T-and}
 use Rattle.ledger.specs.Checks.{Check, Passed}
 use Rattle.ledger.specs.Apply.{pass, fail, finding}
 use Rattle.ledger.proofs.Findings.{pass→passed, pass-append, passed-front, passed-back}
 use Rattle.session.specs.declared.state.Session.{Session}
-use Rattle.session.specs.Cells.{Tables, named}
+use Rattle.session.specs.Cells.{Tables, Long, named}
 use Rattle.session.specs.InOrder.{sizes, order, allPass}
 use Rattle.session.specs.Calls.{entry}
-use Rattle.order.specs.Walk.{Long}
 use Rattle.session.proofs.Clauses.{Clauses, clauses}
+use Rattle.session.proofs.Starting.{sizes-long}
 
 -- every test refuses with 2
 abbrev twos : List Check → Bool
@@ -35,10 +35,6 @@ order-finding : (n : ℕ) (s : Session) (t : Tables) → finding (order n s t) �
 unfolding order
 order-finding n s t = first (order n s t) tt
 
-pub sizes-long : (n : ℕ) (t : Tables) → Passed (sizes n t) → Long n (t .forms) (t .pool) (t .lines)
-unfolding sizes
-sizes-long n t p = record { form-room = leb→le _ _ (p .0); pool-room = leb→le _ _ (p .1 .0); line-room = leb→le _ _ (p .1 .1 .0) }
-
 module _ (n : ℕ) (s : Session) (t : Tables) where
   -- where the sizes pass, b is whether the order does
   pub entry-answer : {b : Bool} → finding (sizes n t) ≡ pass → b ≡ allPass (order n s (named n t)) → cond b pass (fail 2) ≡ entry n s t
@@ -49,7 +45,7 @@ module _ (n : ℕ) (s : Session) (t : Tables) where
     both : Passed (sizes n t ++ order n s (named n t))
     both = pass→passed (sizes n t ++ order n s (named n t)) e
 
-    pub entry-long : Long n (t .forms) (t .pool) (t .lines)
+    pub entry-long : Long n t
     entry-long = sizes-long n t (passed-front (sizes n t) (order n s (named n t)) both)
 
     pub entry-clauses : Clauses n s (named n t)

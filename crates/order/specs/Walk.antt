@@ -12,7 +12,7 @@ use Rattle.ledger.specs.Literals.{ascending, namesBelow}
 use Rattle.ledger.specs.Legal.{isOrigin}
 use Rattle.session.specs.declared.state.Mark.{Mark}
 use Rattle.session.specs.declared.state.Session.{Session}
-use Rattle.session.specs.Limits.{lineCells, formTable, poolTable, lineTable}
+use Rattle.session.specs.Limits.{lineCells, poolTable, lineTable}
 use Rattle.session.specs.Cells.{noMark, countsOf, endBefore, originAt, literalsAt, edge}
 use Rattle.session.specs.InOrder.{notAbove}
 
@@ -78,19 +78,8 @@ lower s (suc i) = edge s i
 abbrev pub LevelsGood : List ℕ → List ℕ → Session → Type 0
 LevelsGood pool lines s = (i : ℕ) → i ≤ s .«open» → LevelGood pool lines (countsOf s) (lower s i) (edge s i)
 
-pub record Room (pool lines : List ℕ) (s : Session) : Type 0 where
+-- what the walk through all levels takes for granted
+pub record Passable (pool lines : List ℕ) (s : Session) : Type 0 where
   pub counted : Counted s
   pub pool-size : length pool ≡ poolTable
   pub line-size : length lines ≡ lineTable
-
--- the tables are cut to their named cells
-pub record Sized (n : ℕ) (forms : List ℤ) (pool lines : List ℕ) : Type 0 where
-  pub form-size : length forms ≡ formTable n
-  pub pool-size : length pool ≡ poolTable
-  pub line-size : length lines ≡ lineTable
-
--- the tables have their named cells at least
-pub record Long (n : ℕ) (forms : List ℤ) (pool lines : List ℕ) : Type 0 where
-  pub form-room : formTable n ≤ length forms
-  pub pool-room : poolTable ≤ length pool
-  pub line-room : lineTable ≤ length lines

@@ -6,7 +6,7 @@ ghost use Rattle.ints.specs.Tests.{all};
 ghost use Rattle.ledger.specs.Limits.{mostLevels};
 ghost use Rattle.session.specs.Cells.{edge};
 ghost use Rattle.session.specs.InOrder.{notAbove, isNoMark};
-ghost use Rattle.order.specs.Walk.{Exactly, LinesGood, Stretch, Below, LevelGood, LevelsGood, Room};
+ghost use Rattle.order.specs.Walk.{Exactly, LinesGood, Stretch, Below, LevelGood, LevelsGood, Passable};
 use session::state::Mark;
 use session::state::Session;
 
@@ -111,7 +111,7 @@ fn edge_at(s: Session, i: usize) -> Mark
 
 // Whether the levels are right, from the first mark up to the present counts: each line is met once.
 pub fn levels_hold(s: Session, pool: &[u16], lines: &[u16]) -> bool
-    requires { ⌜ Room (now pool) (now lines) s ⌝ }
+    requires { ⌜ Passable (now pool) (now lines) s ⌝ }
     ensures { λ r. ⌜ Exactly r (LevelsGood (now (pool .entry)) (now (lines .entry)) s) ⌝ }
 {
     let here = s.counts();

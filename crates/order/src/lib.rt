@@ -6,11 +6,11 @@ pub mod standing;
 ghost use mathlib.Core.Path.{_≡_};
 ghost use Prim.Native.Nat.{_*_};
 ghost use Rattle.rows.specs.Limits.{unknowns};
-ghost use Rattle.session.specs.Cells.{named, asLent};
+ghost use Rattle.session.specs.Cells.{Sized, Long, named, asGiven, asLent};
 ghost use Rattle.session.specs.InOrder.{order, allPass};
 ghost use Rattle.session.specs.Answers.{findingOf};
 ghost use Rattle.session.specs.Calls.{entry};
-ghost use Rattle.order.specs.Walk.{Exactly, Counted, Sized, Long};
+ghost use Rattle.order.specs.Walk.{Exactly, Counted};
 use session::answers::Refusal;
 use session::answers::Verdict;
 use session::state::Session;
@@ -33,7 +33,7 @@ fn counts_hold(s: Session) -> bool
 
 // The whole test, over the named cells.
 fn ordered(s: Session, forms: &[i32], pool: &[u16], lines: &[u16]) -> bool
-    requires { ⌜ Sized unknowns (now forms) (now pool) (now lines) ⌝ }
+    requires { ⌜ Sized unknowns (asGiven forms pool lines) ⌝ }
     ensures { λ r. ⌜ r ≡ allPass (order unknowns s (asLent forms pool lines)) ⌝ }
 {
     if !counts_hold(s) {
@@ -63,7 +63,7 @@ fn ordered(s: Session, forms: &[i32], pool: &[u16], lines: &[u16]) -> bool
 
 // Whether session and tables are in order; of longer tables the excess is not read.
 fn in_order(s: Session, forms: &[i32], pool: &[u16], lines: &[u16]) -> bool
-    requires { ⌜ Long unknowns (now forms) (now pool) (now lines) ⌝ }
+    requires { ⌜ Long unknowns (asGiven forms pool lines) ⌝ }
     ensures { λ r. ⌜ r ≡ allPass (order unknowns s (named unknowns (asLent forms pool lines))) ⌝ }
 {
     ordered(

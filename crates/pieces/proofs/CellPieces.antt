@@ -8,7 +8,6 @@ use Prim.Native.Nat.{ℕ, _+_, _≤_, _<_}
 use native.Mathlib.Omega.{arith}
 use lib.Dec.{T, eqb, ltb, eqb→eq, ltb→lt}
 use lib.ListN.{length, drop}
-use lib.Seq.{length-take-le}
 use Rattle.ints.specs.Tests.{all}
 use Rattle.ints.proofs.Bools.{never, T-and, T-or}
 use Rattle.ledger.specs.Limits.{mostLevels}
@@ -17,13 +16,11 @@ use Rattle.ledger.specs.Legal.{Legal}
 use Rattle.ledger.specs.Checks.{Check}
 use Rattle.ledger.specs.Apply.{Finding, pass, fail, finding}
 use Rattle.ledger.specs.Run as ledger
-use Rattle.ledger.proofs.Findings.{pass→passed, passed-back}
 use Rattle.session.specs.declared.state.Session.{Session}
-use Rattle.session.specs.Limits.{formTable, poolTable, lineTable}
 use Rattle.session.specs.Cells.{Tables, named, excess, ledgerOf}
 use Rattle.session.specs.InOrder.{sizes, order}
 use Rattle.session.specs.Calls.{entry}
-use Rattle.order.proofs.Entry.{entry-long}
+use Rattle.checker.proofs.Feeding.{entry-held}
 use Rattle.laid.proofs.InOrderIffLaid.{LaidOut, in-order-laid}
 use Rattle.laid.proofs.Sizes.{laid-sizes}
 use Rattle.stream.specs.Run.{Totals, totals, run}
@@ -61,16 +58,7 @@ module _ (n : ℕ) (s : Session) (t : Tables) where
   module _ (marks : length (s .marks) ≡ mostLevels) where
     -- where nothing is refused before the first record, a legal ledger is laid out
     entry-laid : entry n s t ≡ pass → LaidOut n s (named n t) there
-    entry-laid e =
-        let long = entry-long n s t e in
-        in-order-laid n s (named n t)
-        (record {
-          forms = length-take-le (formTable n) (t .forms) (long .form-room);
-          pool = length-take-le poolTable (t .pool) (long .pool-room);
-          lines = length-take-le lineTable (t .lines) (long .line-room);
-          marks = marks;
-        })
-        (passed-back (sizes n t) (order n s (named n t)) (pass→passed (sizes n t ++ order n s (named n t)) e))
+    entry-laid e = let h = entry-held n s t e marks in in-order-laid n s (named n t) (h .exact) (h .ordered)
 
     on-ledger : entry n s t ≡ pass → (b : List ℕ) → run n s t b ≡ totalsLaid n (excess n t) (ledger.run n there b)
     on-ledger e b =
@@ -104,7 +92,7 @@ module _ (n : ℕ) (s : Session) (t : Tables) where
     marks-again a = by (entry n s t) refl
       where
         by : (f : Finding) → entry n s t ≡ f → length (run n s t a .session .marks) ≡ mostLevels
-        by pass e = rw (on-ledger e a) (laid-sizes n (ledger.run n there a .ledger) (legal-then e a) .marks)
+        by pass e = rw (on-ledger e a) (laid-sizes n (ledger.run n there a .ledger) (legal-then e a) .mark-size)
         by (fail k) e = rw (refused-before k e a) marks
 
     -- ---- how much is taken, and how much is left

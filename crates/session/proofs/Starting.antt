@@ -1,11 +1,12 @@
 -- What it says that the sizes pass, and what `start` does on its two ways out.
 use mathlib.Core.Path.{_≡_, sym, ap, _∙_}
 use mathlib.Core.List.{List}
-use Prim.Native.Nat.{ℕ, _≤_}
+use Prim.Native.Nat.{ℕ}
 use lib.Dec.{leb→le}
 use lib.IntN.{ℤ, pos}
 use lib.ListN.{length, take, replicate}
 use lib.Seq.{length-take-le}
+use Rattle.ledger.specs.Checks.{Passed}
 use Rattle.ledger.specs.Apply.{finding}
 use Rattle.ledger.proofs.Findings.{pass→passed}
 use Rattle.session.specs.declared.state.Session.{Session}
@@ -14,23 +15,18 @@ use Rattle.session.specs.declared.answers.Start.the-variants.{Started, R
 use Rattle.session.specs.declared.answers.Verdict.{Verdict}
 use Rattle.session.specs.declared.answers.Verdict.the-variants.{Pass, Fail}
 use Rattle.session.specs.Limits.{formTable, poolTable, lineTable}
-use Rattle.session.specs.Cells.{Tables, tables, excess, withExcess, freshSession}
+use Rattle.session.specs.Cells.{Tables, tables, Long, excess, withExcess, freshSession}
 use Rattle.session.specs.InOrder.{sizes}
 use Rattle.session.specs.Answers.{findingOf}
 use Rattle.session.specs.Calls.{start, beginningOf}
 
--- the tables have their named cells at least
-pub record Long (n : ℕ) (t : Tables) : Type 0 where
-  pub forms : formTable n ≤ length (t .forms)
-  pub pool : poolTable ≤ length (t .pool)
-  pub lines : lineTable ≤ length (t .lines)
+pub sizes-long : (n : ℕ) (t : Tables) → Passed (sizes n t) → Long n t
+unfolding sizes
+sizes-long n t p = record { form-room = leb→le _ _ (p .0); pool-room = leb→le _ _ (p .1 .0); line-room = leb→le _ _ (p .1 .1 .0) }
 
 module _ (n : ℕ) (t : Tables) (v : Verdict) (found : findingOf v ≡ finding (sizes n t)) where
   pub passed→long : v ≡ Pass → Long n t
-  unfolding sizes
-  passed→long e =
-      let h = pass→passed (sizes n t) (sym found ∙ ap findingOf e) in
-      record { forms = leb→le (formTable n) _ (h .0); pool = leb→le poolTable _ (h .1 .0); lines = leb→le lineTable _ (h .1 .1 .0) }
+  passed→long e = sizes-long n t (pass→passed (sizes n t) (sym found ∙ ap findingOf e))
 
   module _ (s : Session) (fresh : s ≡ freshSession) where
     pub start-refused : (why : Refusal) → v ≡ Fail why → beginningOf (record { session = s; start = Refused why }) t ≡ start n t
@@ -53,7 +49,7 @@ module _ (n : ℕ) (t : Tables) (v : Verdict) (found : findingOf v ≡ finding (
           i,
           j,
           k,
-          length-take-le (formTable n) (t .forms) (h .forms),
-          length-take-le poolTable (t .pool) (h .pool),
-          length-take-le lineTable (t .lines) (h .lines),
+          length-take-le (formTable n) (t .forms) (h .form-room),
+          length-take-le poolTable (t .pool) (h .pool-room),
+          length-take-le lineTable (t .lines) (h .line-room),
         )

@@ -1,10 +1,11 @@
 -- What a session and its tables hold, cell by cell, and the ledger that is read from them.
+use mathlib.Core.Path.{_≡_}
 use mathlib.Core.Bool.{cond}
 use mathlib.Core.List.{List, [], _∷_, _++_}
-use Prim.Native.Nat.{ℕ, zero, suc, _+_, _*_, _-_}
+use Prim.Native.Nat.{ℕ, zero, suc, _+_, _*_, _-_, _≤_}
 use lib.Dec.{ltb}
 use lib.IntN.{ℤ, pos}
-use lib.ListN.{getD, take, drop, replicate}
+use lib.ListN.{length, getD, take, drop, replicate}
 use denote.Ref.{RefT, now}
 use denote.Triple.Both.{Both}
 use Rattle.rows.specs.Form.{formAt}
@@ -33,6 +34,18 @@ asLent f p l = asGiven (f .entry) (p .entry) (l .entry)
 
 abbrev pub asLeft : {X Y Z : Type 0} → Both X (RefT (List ℤ)) → Both Y (RefT (List ℕ)) → Both Z (RefT (List ℕ)) → Tables
 asLeft f p l = asGiven (f .exit) (p .exit) (l .exit)
+
+-- the tables have their named cells at least
+pub record Long (n : ℕ) (t : Tables) : Type 0 where
+  pub form-room : formTable n ≤ length (t .forms)
+  pub pool-room : poolTable ≤ length (t .pool)
+  pub line-room : lineTable ≤ length (t .lines)
+
+-- the tables are cut to their named cells
+pub record Sized (n : ℕ) (t : Tables) : Type 0 where
+  pub form-size : length (t .forms) ≡ formTable n
+  pub pool-size : length (t .pool) ≡ poolTable
+  pub line-size : length (t .lines) ≡ lineTable
 
 -- the cells that have a name
 abbrev pub named : ℕ → Tables → Tables

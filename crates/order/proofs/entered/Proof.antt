@@ -7,7 +7,8 @@ use Rattle.ledger.proofs.Findings.{pass→passed, fail-append}
 use Rattle.session.specs.Cells.{Tables, tables, named}
 use Rattle.session.specs.InOrder.{sizes, order}
 use Rattle.session.specs.Answers.{findingOf}
-use Rattle.order.proofs.Entry.{sizes-long, entry-answer}
+use Rattle.session.proofs.Starting.{sizes-long}
+use Rattle.order.proofs.Entry.{entry-answer}
 use Rattle.order.proofs.entered.Statement.{statement}
 use Rattle.order.proofs.entered.Tie as tie
 

@@ -23,7 +23,7 @@ enum-told : tie.Need-enum-told
 enum-told c = search needs
 
 keep-form-requires : tie.Need-keep-form-requires
-keep-form-requires c κs = (c .before .before .before .before .before .before .before .pre .0 .held .form-size, c .before .before .before .before .before .before .before .pre .1)
+keep-form-requires c κs = (c .before .before .before .before .before .before .before .pre .0 .held .exact .sized .form-size, c .before .before .before .before .before .before .before .pre .1)
 
 enum-known-p-2 : tie.Need-enum-known-p-2
 enum-known-p-2 c = search needs
@@ -47,7 +47,7 @@ part-keep-line-end-2 : tie.Need-part-keep-line-end-2
 part-keep-line-end-2 c = fits-line (c .before .before .before .before .p2 .given .1) (c .before .before .before .before .before .before .before .before .before .before .pre .2) .second
 
 keep-line-requires : tie.Need-keep-line-requires
-keep-line-requires c κs = record { pool = c .before .before .before .before .before .before .before .before .before .before .before .pre .0 .held .pool-size; table = c .before .before .before .before .before .before .before .before .before .before .before .pre .0 .held .line-size; few = seen-literals (c .before .before .before .before .before .before .before .before .before .before .before .pre .0) }
+keep-line-requires c κs = record { pool = c .before .before .before .before .before .before .before .before .before .before .before .pre .0 .held .exact .sized .pool-size; table = c .before .before .before .before .before .before .before .before .before .before .before .pre .0 .held .exact .sized .line-size; few = seen-literals (c .before .before .before .before .before .before .before .before .before .before .before .pre .0) }
 
 enum-told-2 : tie.Need-enum-told-2
 enum-told-2 c = search needs

@@ -1,8 +1,8 @@
 -- `session::start::start` meets its contract. Where the sizes pass, the tables have their named cells, which come back as zeros.
 use denote.Ref.{now}
 use Rattle.rows.specs.Limits.{unknowns}
-use Rattle.session.specs.Cells.{Tables, tables}
-use Rattle.session.proofs.Starting.{Long, passed→long, start-refused, start-passed}
+use Rattle.session.specs.Cells.{Tables, tables, Long}
+use Rattle.session.proofs.Starting.{passed→long, start-refused, start-passed}
 use borrow.Author.Needs.{needs}
 use Rattle.session.proofs.start.start.Statement.{statement}
 use Rattle.session.proofs.start.start.Tie as tie
@@ -50,7 +50,7 @@ part-clear-forms-start : tie.Need-part-clear-forms-start
 part-clear-forms-start c = search needs
 
 part-clear-forms-end : tie.Need-part-clear-forms-end
-part-clear-forms-end c = long-then c .forms
+part-clear-forms-end c = long-then c .form-room
 
 clear-forms-requires : tie.Need-clear-forms-requires
 clear-forms-requires c κs = search needs
@@ -62,7 +62,7 @@ part-clear-numbers-start : tie.Need-part-clear-numbers-start
 part-clear-numbers-start c = search needs
 
 part-clear-numbers-end : tie.Need-part-clear-numbers-end
-part-clear-numbers-end c = long-then (c .before .before .before) .pool
+part-clear-numbers-end c = long-then (c .before .before .before) .pool-room
 
 clear-numbers-requires : tie.Need-clear-numbers-requires
 clear-numbers-requires c κs = search needs
@@ -74,7 +74,7 @@ part-clear-numbers-start-2 : tie.Need-part-clear-numbers-start-2
 part-clear-numbers-start-2 c = search needs
 
 part-clear-numbers-end-2 : tie.Need-part-clear-numbers-end-2
-part-clear-numbers-end-2 c = long-then (c .before .before .before .before .before .before .before) .lines
+part-clear-numbers-end-2 c = long-then (c .before .before .before .before .before .before .before) .line-room
 
 clear-numbers-requires-2 : tie.Need-clear-numbers-requires-2
 clear-numbers-requires-2 c κs = search needs

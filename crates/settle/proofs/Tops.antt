@@ -9,15 +9,21 @@ use Rattle.ledger.specs.Limits.{mostForms, mostLines, mostLiterals, mostLevels}
 use Rattle.ledger.specs.Ledger.{Line, newForm, newLine}
 use Rattle.ledger.specs.Record.{form, line, level}
 use Rattle.ledger.specs.Apply.{stored, settles, opens, withdraws}
+use Rattle.session.specs.declared.state.Mark.{Mark}
 use Rattle.session.specs.declared.state.Session.{Session}
 use Rattle.session.specs.Limits.{formCells}
-use Rattle.session.specs.Cells.{Tables, tables, noMark, countsOf, ledgerOf}
+use Rattle.session.specs.Cells.{Tables, tables, noMark, countsOf, markAt, ledgerOf}
 use Rattle.session.specs.Effects.{formWritten, literalsWritten, lineWritten, freed, Between}
 use Rattle.laid.specs.Held.{Held}
 use Rattle.laid.proofs.HeldLaws.{held-clauses}
 use Rattle.settle.specs.declared.Top.{Top}
 use Rattle.settle.specs.Settling.{withCounts, settled, topOf, Seen}
 use Rattle.settle.proofs.OnLedger.{changed, form-kept, line-kept, level-opens, level-fits, level-closes}
+
+-- what is read of a session is its top
+pub top-is : (s : Session) {counts : Mark} {at : ℕ} → counts ≡ countsOf s → at ≡ s .«open» - 1
+    → topOf s ≡ record { counts = counts; «open» = s .«open»; last = markAt s at }
+top-is s e f = rw (e, f)
 
 -- ---- a form, a line
 

@@ -19,7 +19,8 @@ use Rattle.session.specs.Cells.{Tables, named, excess, withExcess, ledgerOf}
 use Rattle.session.specs.Calls.{entry}
 use Rattle.laid.specs.Held.{Held}
 use Rattle.records.specs.Marks.{Misshapen}
-use Rattle.settle.specs.Settling.{Result, unchanged, settled}
+use Rattle.settle.specs.declared.Change.{Change}
+use Rattle.settle.specs.Settling.{Result, unchanged, settled, resultBy}
 use Rattle.checker.specs.Feed.{stepped, feed}
 use Rattle.stream.specs.Run.{Totals, totals, eachBy, run}
 use Rattle.settle.proofs.OnLedger.{changed}
@@ -86,6 +87,10 @@ each-beside n k c s t x (b ∷ bs) h =
         ])
     go (accepted m) rest = rest
     go (refused j) rest = refl
+
+-- what a change that is known does
+pub told : (s : Session) (t : Tables) {r : Result} {x y : Change} → x ≡ y → resultBy s x t ≡ r → resultBy s y t ≡ r
+told s t e d = sym (ap (λ (x : Change). resultBy s x t) e) ∙ d
 
 -- ---- the loop
 

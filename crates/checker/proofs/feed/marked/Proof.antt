@@ -70,7 +70,17 @@ same-length-3 : tie.Need-same-length-3
 same-length-3 c = search needs
 
 returns : tie.Need-returns
-returns c = rw (c .apply-to .ensures, c .before .answer-of .ensures) (stepped-settled unknowns (c .before .before .before .before .before .before .before .before .before .before .before .before .before .before .before .before .before .before .before .before .before .before .before .before .before .before .before .before .before .before .before .before .args .t1) (tables (now (c .before .before .before .before .before .before .before .before .before .before .before .before .before .before .before .before .before .before .before .before .before .before .before .before .before .before .before .before .before .before .before .before .args .forms)) (now (c .before .before .before .before .before .before .before .before .before .before .before .before .before .before .before .before .before .before .before .before .before .before .before .before .before .before .before .before .before .before .before .before .args .pool)) (now (c .before .before .before .before .before .before .before .before .before .before .before .before .before .before .before .before .before .before .before .before .before .before .before .before .before .before .before .before .before .before .before .before .args .lines))) (now (c .before .before .before .before .before .before .before .before .before .before .before .before .before .before .before .before .before .before .before .before .before .before .before .before .before .before .before .before .before .before .before .before .args .bytes)) _ (c .before .before .before .before .before .before .before .before .before .before .before .before .before .before .before .before .before .before .before .before .before .before .before .before .before .before .before .before .before .before .before .before .pre .1) (rw (c .before .before .before .before .before .before .before .before .before .before .before .before .before .before .before .before .before .before .before .before .before .before .before .before .before .before .before .before .counts .ensures) at (c .before .before .before .before .before .before .before .before .before .before .before .before .before .before .before .before .before .before .before .before .before .propose .ensures .says)) (c .before .before .before .before .before .before .before .settle .ensures (c .before .before .before .before .before .before .before .before .before .before .before .before .before .before .before .before .before .before .before .before .before .before .before .before .before .before .before .before .before .before .before .before .args .t1) (rw (c .before .before .before .before .before .before .before .before .before .before .before .before .before .before .before .counts2 .ensures, c .before .before .before .before .before .before .before .before .before .before .before .before .before .before .before .before .before .last-place .ensures) refl) (c .before .before .before .before .before .before .before .before .before .before .before .before .before .before .before .before .before .before .before .before .before .before .before .before .before .before .before .before .before .before .before .before .pre .0)))
+returns c =
+    let at-settle = c .before .before .before .before .before .before .before in
+    let at-counts2 = at-settle .before .before .before .before .before .before .before .before in
+    let at-last-place = at-counts2 .before .before in
+    let at-propose = at-last-place .before .before .before .before in
+    let at-counts = at-propose .before .before .before .before .before .before .before in
+    let at-args = at-counts .before .before .before .before in
+    rw (c .apply-to .ensures, c .before .answer-of .ensures) (stepped-settled unknowns (at-args .args .t1) (tables (now (at-args .args .forms)) (now (at-args
+    .args .pool)) (now (at-args .args .lines))) (now (at-args .args .bytes)) _ (at-args .pre .1) (rw (at-counts .counts .ensures) at (at-propose .propose
+    .ensures .says)) (at-settle .settle .ensures (at-args .args .t1) (rw (at-counts2 .counts2 .ensures, at-last-place .last-place .ensures) refl) (at-args
+    .pre .0)))
 
 pub marked-spec : {M : Type 1} → statement M
 marked-spec =

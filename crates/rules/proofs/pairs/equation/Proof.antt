@@ -52,7 +52,21 @@ same-length-2 c = search needs
 
 returns-2 : tie.Need-returns-2
 unfolding tests makes
-returns-2 c = of-fields unknowns (c .before .before .before .before .before .before .before .before .before .before .before .before .before .before .before .before .before .args .count) (now (c .before .before .before .before .before .before .before .before .before .before .before .before .before .before .before .before .before .args .forms)) _ _ _ (ap₂ (λ (a b : ℕ). EQ a b) (c .before .before .before .before .before .before .before .before .before .before .before .before .before .u16-at .ensures) (c .before .before .before .before .before .before .before .before .before .before .before .before .u16-at2 .ensures)) (λ ls cells. as-rule unknowns (formsIn unknowns (c .before .before .before .before .before .before .before .before .before .before .before .before .before .before .before .before .before .args .count) (now (c .before .before .before .before .before .before .before .before .before .before .before .before .before .before .before .before .before .args .forms))) ls (EQ (c .before .before .before .before .before .before .before .before .before .before .before .before .before .u16-at .result) (c .before .before .before .before .before .before .before .before .before .before .before .before .u16-at2 .result)) (others-decide (bothAre (formsIn unknowns (c .before .before .before .before .before .before .before .before .before .before .before .before .before .before .before .before .before .args .count) (now (c .before .before .before .before .before .before .before .before .before .before .before .before .before .before .before .before .before .args .forms))) isZero (c .before .before .before .before .before .before .before .before .before .before .before .before .before .u16-at .result) atMost (c .before .before .before .before .before .before .before .before .before .before .before .before .u16-at2 .result)) _ (c .before .before .before .before .before .before .before .before .before .before .before .both-are .ensures) (c .before .before .before .before .before .before .before .before .before .enum-told .given .1) (then-rows (c .before .before .before .before .before .before .before .before .before .before .before .before .before .before .before .before .before .pre .0) isZero atMost (c .before .before .before .before .before .before .before .before .before .before .before .before .before .u16-at .result) (c .before .before .before .before .before .before .before .before .before .before .before .before .u16-at2 .result) (c .before .before .before .before .before .before .before .before .before .before .before .both-are .ensures) (c .before .before .before .before .before .before .before .before .before .enum-told .given .1) (λ (x y : Row). isEither y x) (c .before .before .before .before .before .before .before .before .is-either .ensures) (c .before .before .before .before .before .before .before .holds .ensures))) refl (c .before .before .before .before .two .ensures cells))
+returns-2 c =
+    let at-two = c .before .before .before .before in
+    let at-holds = at-two .before .before .before in
+    let at-is-either = at-holds .before in
+    let at-enum-told = at-is-either .before in
+    let at-both-are = at-enum-told .before .before in
+    let at-u16-at2 = at-both-are .before in
+    let at-u16-at = at-u16-at2 .before in
+    let at-args = at-u16-at .before .before .before .before in
+    of-fields unknowns (at-args .args .count) (now (at-args .args .forms)) _ _ _ (ap₂ (λ (a b : ℕ). EQ a b) (at-u16-at .u16-at .ensures) (at-u16-at2 .u16-at2
+    .ensures)) (λ ls cells. as-rule unknowns (formsIn unknowns (at-args .args .count) (now (at-args .args .forms))) ls (EQ (at-u16-at .u16-at .result)
+    (at-u16-at2 .u16-at2 .result)) (others-decide (bothAre (formsIn unknowns (at-args .args .count) (now (at-args .args .forms))) isZero (at-u16-at .u16-at
+    .result) atMost (at-u16-at2 .u16-at2 .result)) _ (at-both-are .both-are .ensures) (at-enum-told .enum-told .given .1) (then-rows (at-args .pre .0) isZero
+    atMost (at-u16-at .u16-at .result) (at-u16-at2 .u16-at2 .result) (at-both-are .both-are .ensures) (at-enum-told .enum-told .given .1) (λ (x y : Row).
+    isEither y x) (at-is-either .is-either .ensures) (at-holds .holds .ensures))) refl (at-two .two .ensures cells))
 
 pub equation-spec : {M : Type 1} → statement M
 equation-spec =

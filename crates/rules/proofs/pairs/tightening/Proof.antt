@@ -36,7 +36,17 @@ enum-known-both c = search needs
 
 returns : tie.Need-returns
 unfolding tests
-returns c = let factor = toZ-ofZ w32 (c .before .before .before .before .i32-at .result) (sfits-of (c .before .before .before .before .i32-at .ok)) ∙ c .before .before .before .before .i32-at .ensures in of-fields unknowns (c .before .before .before .before .before .before .before .before .before .before .args .count) (now (c .before .before .before .before .before .before .before .before .before .before .args .forms)) _ _ _ (λ i. TI (c .before .before .before .before .before .before .u16-at .ensures i) (c .before .before .before .before .before .u16-at2 .ensures i) (factor i)) (λ ls cells. refusing unknowns (formsIn unknowns (c .before .before .before .before .before .before .before .before .before .before .args .count) (now (c .before .before .before .before .before .before .before .before .before .before .args .forms))) ls (TI (c .before .before .before .before .before .before .u16-at .result) (c .before .before .before .before .before .u16-at2 .result) (toZ w32 (ofZ w32 (c .before .before .before .before .i32-at .result)))) cells _ _ (fails-first (bothAre (formsIn unknowns (c .before .before .before .before .before .before .before .before .before .before .args .count) (now (c .before .before .before .before .before .before .before .before .before .before .args .forms))) atMost (c .before .before .before .before .before .before .u16-at .result) atMost (c .before .before .before .before .before .u16-at2 .result)) _ (c .before .before .before .both-are .ensures) (c .before .both .given .1)))
+returns c =
+    let at-both-are = c .before .before .before in
+    let at-i32-at = at-both-are .before in
+    let at-u16-at2 = at-i32-at .before in
+    let at-u16-at = at-u16-at2 .before in
+    let at-args = at-u16-at .before .before .before .before in
+    let factor = toZ-ofZ w32 (at-i32-at .i32-at .result) (sfits-of (at-i32-at .i32-at .ok)) ∙ at-i32-at .i32-at .ensures in of-fields unknowns (at-args .args
+    .count) (now (at-args .args .forms)) _ _ _ (λ i. TI (at-u16-at .u16-at .ensures i) (at-u16-at2 .u16-at2 .ensures i) (factor i)) (λ ls cells. refusing
+    unknowns (formsIn unknowns (at-args .args .count) (now (at-args .args .forms))) ls (TI (at-u16-at .u16-at .result) (at-u16-at2 .u16-at2 .result) (toZ w32
+    (ofZ w32 (at-i32-at .i32-at .result)))) cells _ _ (fails-first (bothAre (formsIn unknowns (at-args .args .count) (now (at-args .args .forms))) atMost
+    (at-u16-at .u16-at .result) atMost (at-u16-at2 .u16-at2 .result)) _ (at-both-are .both-are .ensures) (c .before .both .given .1)))
 
 enum-told : tie.Need-enum-told
 enum-told c = search needs
@@ -46,7 +56,18 @@ legal-factor-requires c κs = search needs
 
 returns-2 : tie.Need-returns-2
 unfolding tests
-returns-2 c = let factor = toZ-ofZ w32 (c .before .before .before .before .before .i32-at .result) (sfits-of (c .before .before .before .before .before .i32-at .ok)) ∙ c .before .before .before .before .before .i32-at .ensures in of-fields unknowns (c .before .before .before .before .before .before .before .before .before .before .before .args .count) (now (c .before .before .before .before .before .before .before .before .before .before .before .args .forms)) _ _ _ (λ i. TI (c .before .before .before .before .before .before .before .u16-at .ensures i) (c .before .before .before .before .before .before .u16-at2 .ensures i) (factor i)) (λ ls cells. refusing unknowns (formsIn unknowns (c .before .before .before .before .before .before .before .before .before .before .before .args .count) (now (c .before .before .before .before .before .before .before .before .before .before .before .args .forms))) ls (TI (c .before .before .before .before .before .before .before .u16-at .result) (c .before .before .before .before .before .before .u16-at2 .result) (toZ w32 (ofZ w32 (c .before .before .before .before .before .i32-at .result)))) cells _ _ (others-decide (bothAre (formsIn unknowns (c .before .before .before .before .before .before .before .before .before .before .before .args .count) (now (c .before .before .before .before .before .before .before .before .before .before .before .args .forms))) atMost (c .before .before .before .before .before .before .before .u16-at .result) atMost (c .before .before .before .before .before .before .u16-at2 .result)) _ (c .before .before .before .before .both-are .ensures) (c .before .before .enum-told .given .1) (fails whole (sym (c .before .legal-factor .ensures) ∙ not-true _ (c .if1 .taken)))))
+returns-2 c =
+    let at-both-are = c .before .before .before .before in
+    let at-i32-at = at-both-are .before in
+    let at-u16-at2 = at-i32-at .before in
+    let at-u16-at = at-u16-at2 .before in
+    let at-args = at-u16-at .before .before .before .before in
+    let factor = toZ-ofZ w32 (at-i32-at .i32-at .result) (sfits-of (at-i32-at .i32-at .ok)) ∙ at-i32-at .i32-at .ensures in of-fields unknowns (at-args .args
+    .count) (now (at-args .args .forms)) _ _ _ (λ i. TI (at-u16-at .u16-at .ensures i) (at-u16-at2 .u16-at2 .ensures i) (factor i)) (λ ls cells. refusing
+    unknowns (formsIn unknowns (at-args .args .count) (now (at-args .args .forms))) ls (TI (at-u16-at .u16-at .result) (at-u16-at2 .u16-at2 .result) (toZ w32
+    (ofZ w32 (at-i32-at .i32-at .result)))) cells _ _ (others-decide (bothAre (formsIn unknowns (at-args .args .count) (now (at-args .args .forms))) atMost
+    (at-u16-at .u16-at .result) atMost (at-u16-at2 .u16-at2 .result)) _ (at-both-are .both-are .ensures) (c .before .before .enum-told .given .1) (fails
+    whole (sym (c .before .legal-factor .ensures) ∙ not-true _ (c .if1 .taken)))))
 
 tightens-requires : tie.Need-tightens-requires
 tightens-requires c κs = both-inside (c .before .before .before .before .before .before .before .before .before .before .before .pre .0) atMost atMost (c .before .before .before .before .before .before .before .u16-at .result) (c .before .before .before .before .before .before .u16-at2 .result) (c .before .before .before .before .both-are .ensures) (c .before .before .enum-told .given .1)
@@ -65,7 +86,26 @@ same-length-2 c = search needs
 
 returns-3 : tie.Need-returns-3
 unfolding tests makes
-returns-3 c = let factor = toZ-ofZ w32 (c .before .before .before .before .before .before .before .before .before .before .before .before .before .before .i32-at .result) (sfits-of (c .before .before .before .before .before .before .before .before .before .before .before .before .before .before .i32-at .ok)) ∙ c .before .before .before .before .before .before .before .before .before .before .before .before .before .before .i32-at .ensures in of-fields unknowns (c .before .before .before .before .before .before .before .before .before .before .before .before .before .before .before .before .before .before .before .before .args .count) (now (c .before .before .before .before .before .before .before .before .before .before .before .before .before .before .before .before .before .before .before .before .args .forms)) _ _ _ (λ i. TI (c .before .before .before .before .before .before .before .before .before .before .before .before .before .before .before .before .u16-at .ensures i) (c .before .before .before .before .before .before .before .before .before .before .before .before .before .before .before .u16-at2 .ensures i) (factor i)) (λ ls cells. as-rule unknowns (formsIn unknowns (c .before .before .before .before .before .before .before .before .before .before .before .before .before .before .before .before .before .before .before .before .args .count) (now (c .before .before .before .before .before .before .before .before .before .before .before .before .before .before .before .before .before .before .before .before .args .forms))) ls (TI (c .before .before .before .before .before .before .before .before .before .before .before .before .before .before .before .before .u16-at .result) (c .before .before .before .before .before .before .before .before .before .before .before .before .before .before .before .u16-at2 .result) (toZ w32 (ofZ w32 (c .before .before .before .before .before .before .before .before .before .before .before .before .before .before .i32-at .result)))) (others-decide (bothAre (formsIn unknowns (c .before .before .before .before .before .before .before .before .before .before .before .before .before .before .before .before .before .before .before .before .args .count) (now (c .before .before .before .before .before .before .before .before .before .before .before .before .before .before .before .before .before .before .before .before .args .forms))) atMost (c .before .before .before .before .before .before .before .before .before .before .before .before .before .before .before .before .u16-at .result) atMost (c .before .before .before .before .before .before .before .before .before .before .before .before .before .before .before .u16-at2 .result)) _ (c .before .before .before .before .before .before .before .before .before .before .before .before .before .both-are .ensures) (c .before .before .before .before .before .before .before .before .before .before .before .enum-told .given .1) (goes-on (past whole (sym (c .before .before .before .before .before .before .before .before .before .before .legal-factor .ensures) ∙ not-false _ (c .before .before .before .before .before .before .before .before .before .if1 .left))) (then-rows (c .before .before .before .before .before .before .before .before .before .before .before .before .before .before .before .before .before .before .before .before .pre .0) atMost atMost (c .before .before .before .before .before .before .before .before .before .before .before .before .before .before .before .before .u16-at .result) (c .before .before .before .before .before .before .before .before .before .before .before .before .before .before .before .u16-at2 .result) (c .before .before .before .before .before .before .before .before .before .before .before .before .before .both-are .ensures) (c .before .before .before .before .before .before .before .before .before .before .before .enum-told .given .1) (tightens (toZ w32 (ofZ w32 (c .before .before .before .before .before .before .before .before .before .before .before .before .before .before .i32-at .result)))) (c .before .before .before .before .before .before .before .before .tightens .ensures) (c .before .before .before .before .before .before .before .holds .ensures)))) refl (c .before .before .before .before .two .ensures cells))
+returns-3 c =
+    let at-two = c .before .before .before .before in
+    let at-holds = at-two .before .before .before in
+    let at-tightens = at-holds .before in
+    let at-if1 = at-tightens .before in
+    let at-legal-factor = at-if1 .before in
+    let at-enum-told = at-legal-factor .before in
+    let at-both-are = at-enum-told .before .before in
+    let at-i32-at = at-both-are .before in
+    let at-u16-at2 = at-i32-at .before in
+    let at-u16-at = at-u16-at2 .before in
+    let at-args = at-u16-at .before .before .before .before in
+    let factor = toZ-ofZ w32 (at-i32-at .i32-at .result) (sfits-of (at-i32-at .i32-at .ok)) ∙ at-i32-at .i32-at .ensures in of-fields unknowns (at-args .args
+    .count) (now (at-args .args .forms)) _ _ _ (λ i. TI (at-u16-at .u16-at .ensures i) (at-u16-at2 .u16-at2 .ensures i) (factor i)) (λ ls cells. as-rule
+    unknowns (formsIn unknowns (at-args .args .count) (now (at-args .args .forms))) ls (TI (at-u16-at .u16-at .result) (at-u16-at2 .u16-at2 .result) (toZ w32
+    (ofZ w32 (at-i32-at .i32-at .result)))) (others-decide (bothAre (formsIn unknowns (at-args .args .count) (now (at-args .args .forms))) atMost (at-u16-at
+    .u16-at .result) atMost (at-u16-at2 .u16-at2 .result)) _ (at-both-are .both-are .ensures) (at-enum-told .enum-told .given .1) (goes-on (past whole (sym
+    (at-legal-factor .legal-factor .ensures) ∙ not-false _ (at-if1 .if1 .left))) (then-rows (at-args .pre .0) atMost atMost (at-u16-at .u16-at .result)
+    (at-u16-at2 .u16-at2 .result) (at-both-are .both-are .ensures) (at-enum-told .enum-told .given .1) (tightens (toZ w32 (ofZ w32 (at-i32-at .i32-at
+    .result)))) (at-tightens .tightens .ensures) (at-holds .holds .ensures)))) refl (at-two .two .ensures cells))
 
 pub tightening-spec : {M : Type 1} → statement M
 tightening-spec =

@@ -37,7 +37,18 @@ same-length : tie.Need-same-length
 same-length c = search needs
 
 returns-4 : tie.Need-returns-4
-returns-4 c = λ n fs cells e. refusing n fs _ _ cells _ _ (first-lacks (c .before .before .before .before .before .before .before .before .before .before .before .before .before .before .pre .0) n (c .before .before .before .before .before .before .before .before .before .before .before .before .before .before .args .forms) fs e (c .before .before .before .before .before .before .before .before .before .before .before .before .before .before .args .pivot) (c .before .before .before .before .before .before .before .before .before .before .before .before .before .before .args .i) (c .before .before .before .before .before .before .before .before .before .before .before .before .before .before .args .j) (omega arith) (omega arith) (omega arith) (parent (c .before .before .before .before .before .before .literals-of .ensures) (c .before .before .before .gather .ensures) (omega (arith, ap (λ (x : List ℕ). length x) (c .before .before .before .before .before .before .literals-of .ensures), line-few (c .before .before .before .before .before .before .before .before .before .before .before .before .before .before .pre .0) (c .before .before .before .before .before .before .before .before .before .before .before .before .before .before .args .i) (omega arith), c .before .before .before .before .before .before .before .before .before .before .before .before .before .before .pre .2))) (c .if4 .taken))
+returns-4 c =
+    let at-gather = c .before .before .before in
+    let at-literals-of = at-gather .before .before .before in
+    let at-pre = at-literals-of .before .before .before .before .before .before .before .before in
+    λ n fs cells e. refusing n fs _ _ cells _ _ (first-lacks (at-pre .pre .0) n (at-pre .args .forms) fs e (at-pre .args .pivot) (at-pre .args .i) (at-pre
+    .args .j) (omega arith) (omega arith) (omega arith) (parent (at-literals-of .literals-of .ensures) (at-gather .gather .ensures) (omega (
+      arith,
+      ap (λ (x :
+          List ℕ). length x) (at-literals-of .literals-of .ensures),
+      line-few (at-pre .pre .0) (at-pre .args .i) (omega arith),
+      at-pre .pre .2,
+    ))) (c .if4 .taken))
 
 mul-gather-2 : tie.Need-mul-gather-2
 mul-gather-2 c = search needs
@@ -55,7 +66,28 @@ same-length-3 : tie.Need-same-length-3
 same-length-3 c = search needs
 
 returns-5 : tie.Need-returns-5
-returns-5 c = λ n fs cells e. refusing n fs _ _ cells _ _ (second-lacks (c .before .before .before .before .before .before .before .before .before .before .before .before .before .before .before .before .before .before .before .pre .0) n (c .before .before .before .before .before .before .before .before .before .before .before .before .before .before .before .before .before .before .before .args .forms) fs e (c .before .before .before .before .before .before .before .before .before .before .before .before .before .before .before .before .before .before .before .args .pivot) (c .before .before .before .before .before .before .before .before .before .before .before .before .before .before .before .before .before .before .before .args .i) (c .before .before .before .before .before .before .before .before .before .before .before .before .before .before .before .before .before .before .before .args .j) (omega arith) (omega arith) (omega arith) (parent (c .before .before .before .before .before .before .before .before .before .before .before .literals-of .ensures) (c .before .before .before .before .before .before .before .before .gather .ensures) (omega (arith, ap (λ (x : List ℕ). length x) (c .before .before .before .before .before .before .before .before .before .before .before .literals-of .ensures), line-few (c .before .before .before .before .before .before .before .before .before .before .before .before .before .before .before .before .before .before .before .pre .0) (c .before .before .before .before .before .before .before .before .before .before .before .before .before .before .before .before .before .before .before .args .i) (omega arith), c .before .before .before .before .before .before .before .before .before .before .before .before .before .before .before .before .before .before .before .pre .2))) (c .before .before .before .before .before .if4 .left) (parent (c .before .before .before .before .before .before .before .before .before .before .literals-of2 .ensures) (c .before .before .before .gather2 .ensures) (omega (arith, ap (λ (x : List ℕ). length x) (c .before .before .before .before .before .before .before .before .before .before .literals-of2 .ensures), line-few (c .before .before .before .before .before .before .before .before .before .before .before .before .before .before .before .before .before .before .before .pre .0) (c .before .before .before .before .before .before .before .before .before .before .before .before .before .before .before .before .before .before .before .args .j) (omega arith), c .before .before .before .before .before .before .before .before .before .before .before .before .before .before .before .before .before .before .before .pre .3))) (c .if5 .taken))
+returns-5 c =
+    let at-gather2 = c .before .before .before in
+    let at-if4 = at-gather2 .before .before in
+    let at-gather = at-if4 .before .before .before in
+    let at-literals-of2 = at-gather .before .before in
+    let at-literals-of = at-literals-of2 .before in
+    let at-pre = at-literals-of .before .before .before .before .before .before .before .before in
+    λ n fs cells e. refusing n fs _ _ cells _ _ (second-lacks (at-pre .pre .0) n (at-pre .args .forms) fs e (at-pre .args .pivot) (at-pre .args .i) (at-pre
+    .args .j) (omega arith) (omega arith) (omega arith) (parent (at-literals-of .literals-of .ensures) (at-gather .gather .ensures) (omega (
+      arith,
+      ap (λ (x :
+          List ℕ). length x) (at-literals-of .literals-of .ensures),
+      line-few (at-pre .pre .0) (at-pre .args .i) (omega arith),
+      at-pre .pre .2,
+    ))) (at-if4 .if4
+    .left) (parent (at-literals-of2 .literals-of2 .ensures) (at-gather2 .gather2 .ensures) (omega (
+      arith,
+      ap (λ (x : List ℕ). length x) (at-literals-of2
+          .literals-of2 .ensures),
+      line-few (at-pre .pre .0) (at-pre .args .j) (omega arith),
+      at-pre .pre .3,
+    ))) (c .if5 .taken))
 
 sub-longer-than : tie.Need-sub-longer-than
 sub-longer-than c = search needs
@@ -85,7 +117,29 @@ same-length-5 : tie.Need-same-length-5
 same-length-5 c = search needs
 
 returns-6 : tie.Need-returns-6
-returns-6 c = λ n fs cells e. let more = simp sub-zero at (sym (c .before .longer-than .ensures) ∙ c .if6 .taken) in refusing n fs _ _ cells _ _ (too-long (c .before .before .before .before .before .before .before .before .before .before .before .before .before .before .before .before .before .before .before .before .before .before .before .before .before .pre .0) n (c .before .before .before .before .before .before .before .before .before .before .before .before .before .before .before .before .before .before .before .before .before .before .before .before .before .args .forms) fs e (c .before .before .before .before .before .before .before .before .before .before .before .before .before .before .before .before .before .before .before .before .before .before .before .before .before .args .pivot) (c .before .before .before .before .before .before .before .before .before .before .before .before .before .before .before .before .before .before .before .before .before .before .before .before .before .args .i) (c .before .before .before .before .before .before .before .before .before .before .before .before .before .before .before .before .before .before .before .before .before .before .before .before .before .args .j) (omega arith) (omega arith) (omega arith) (parent (c .before .before .before .before .before .before .before .before .before .before .before .before .before .before .before .before .before .literals-of .ensures) (c .before .before .before .before .before .before .before .before .before .before .before .before .before .before .gather .ensures) (omega (arith, ap (λ (x : List ℕ). length x) (c .before .before .before .before .before .before .before .before .before .before .before .before .before .before .before .before .before .literals-of .ensures), line-few (c .before .before .before .before .before .before .before .before .before .before .before .before .before .before .before .before .before .before .before .before .before .before .before .before .before .pre .0) (c .before .before .before .before .before .before .before .before .before .before .before .before .before .before .before .before .before .before .before .before .before .before .before .before .before .args .i) (omega arith), c .before .before .before .before .before .before .before .before .before .before .before .before .before .before .before .before .before .before .before .before .before .before .before .before .before .pre .2))) (c .before .before .before .before .before .before .before .before .before .before .before .if4 .left) (parent (c .before .before .before .before .before .before .before .before .before .before .before .before .before .before .before .before .literals-of2 .ensures) (c .before .before .before .before .before .before .before .before .before .gather2 .ensures) (omega (arith, ap (λ (x : List ℕ). length x) (c .before .before .before .before .before .before .before .before .before .before .before .before .before .before .before .before .literals-of2 .ensures), line-few (c .before .before .before .before .before .before .before .before .before .before .before .before .before .before .before .before .before .before .before .before .before .before .before .before .before .pre .0) (c .before .before .before .before .before .before .before .before .before .before .before .before .before .before .before .before .before .before .before .before .before .before .before .before .before .args .j) (omega arith), c .before .before .before .before .before .before .before .before .before .before .before .before .before .before .before .before .before .before .before .before .before .before .before .before .before .pre .3))) (c .before .before .before .before .before .before .if5 .left) (ltb-true _ _ more))
+returns-6 c =
+    let at-if5 = c .before .before .before .before .before .before in
+    let at-gather2 = at-if5 .before .before .before in
+    let at-if4 = at-gather2 .before .before in
+    let at-gather = at-if4 .before .before .before in
+    let at-literals-of2 = at-gather .before .before in
+    let at-literals-of = at-literals-of2 .before in
+    let at-pre = at-literals-of .before .before .before .before .before .before .before .before in
+    λ n fs cells e. let more = simp sub-zero at (sym (c .before .longer-than .ensures) ∙ c .if6 .taken) in refusing n fs _ _ cells _ _ (too-long (at-pre .pre
+    .0) n (at-pre .args .forms) fs e (at-pre .args .pivot) (at-pre .args .i) (at-pre .args .j) (omega arith) (omega arith) (omega arith) (parent
+    (at-literals-of .literals-of .ensures) (at-gather .gather .ensures) (omega (
+      arith,
+      ap (λ (x : List ℕ). length x) (at-literals-of .literals-of .ensures),
+      line-few (at-pre .pre .0) (at-pre .args .i) (omega arith),
+      at-pre .pre .2,
+    ))) (at-if4 .if4 .left) (parent (at-literals-of2 .literals-of2 .ensures)
+    (at-gather2 .gather2 .ensures) (omega (
+      arith,
+      ap (λ (x : List ℕ). length x) (at-literals-of2 .literals-of2 .ensures),
+      line-few (at-pre .pre .0) (at-pre
+          .args .j) (omega arith),
+      at-pre .pre .3,
+    ))) (at-if5 .if5 .left) (ltb-true _ _ more))
 
 derived-requires : tie.Need-derived-requires
 derived-requires c κs = search needs

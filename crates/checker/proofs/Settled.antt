@@ -1,5 +1,5 @@
 -- What is held may be proposed from, and what is proposed, settled, is what the record does.
-use mathlib.Core.Path.{_≡_, refl, ap, _∙_}
+use mathlib.Core.Path.{_≡_, ap, _∙_}
 use mathlib.Core.List.{List}
 use Prim.Native.Nat.{ℕ, suc}
 use lib.IntN.{ℤ}
@@ -7,7 +7,7 @@ use lib.ListN.{length}
 use Rattle.rows.specs.Limits.{mostTerms}
 use Rattle.ledger.specs.Limits.{longestLine}
 use Rattle.ledger.specs.Record.{RecordMark}
-use Rattle.ledger.specs.Apply.{pass, fail, finding, Proposal, proposed, settles, apply}
+use Rattle.ledger.specs.Apply.{fail, finding, Proposal, proposed, settles, apply}
 use Rattle.ledger.specs.Bytes.{shape, fields, decode, applyBytes}
 use Rattle.session.specs.declared.state.Session.{Session}
 use Rattle.session.specs.Cells.{Tables, ledgerOf}

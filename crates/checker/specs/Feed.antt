@@ -1,5 +1,4 @@
 -- What the call feed does: the answer, the session and every lent cell afterwards, for every input.
-use mathlib.Core.Path.{_≡_}
 use mathlib.Core.List.{List}
 use Prim.Native.Nat.{ℕ}
 use Rattle.ledger.specs.Apply.{Finding, pass, fail}

@@ -6,6 +6,7 @@ use mathlib.Core.List.{List, [], _∷_, _++_}
 use Prim.Native.Nat.{ℕ, zero, suc, _+_}
 use native.Mathlib.Omega.{arith}
 use lib.ListN.{length, take, getD}
+use Rattle.ints.specs.Tests.{upTo}
 use Rattle.ints.proofs.Bools.{never}
 use Rattle.ledger.specs.Ledger.{fresh}
 use Rattle.ledger.specs.Record.{Answer, level, accepted, refused, isAccepted}
@@ -76,7 +77,7 @@ module _ (n : ℕ) where
         never (cc)
 
     pub writing-nothing-breaks : WritesNothing f → ⊥
-    unfolding applyBytes tablesOf
+    unfolding applyBytes tablesOf upTo
     writing-nothing-breaks nothing =
         let same : _≡_ {A = ℕ} 0 1 =
         ap origin (sym (nothing s t emptyPremise)) ∙ ap (λ (r : Result). origin (r .tables)) (fed emptyPremise) in
@@ -102,7 +103,7 @@ module _ (n : ℕ) where
       ran b = meets s t b ∙ run-laid n noExcess fresh (legal-fresh n) b
 
       pub waving-breaks : WavesTheRest f → ⊥
-      unfolding applyBytes ledger.runFrom ledger.split
+      unfolding applyBytes ledger.runFrom ledger.split upTo
       waving-breaks waves = by (waves s t premiseWithdrawal)
         where
           counted : f s t premiseWithdrawal .records ≡ 1

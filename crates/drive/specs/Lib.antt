@@ -1,2 +1,2 @@
 -- What the program's contracts cite.
-pub mod Inside
+pub mod Lends

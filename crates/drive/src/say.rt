@@ -1,5 +1,5 @@
 // Prints: what a run came to, the session, and a sum over each table.
-ghost use Rattle.drive.specs.Inside.{Inside};
+ghost use Rattle.drive.specs.Lends.{Lends};
 use crate::tables::State;
 use libc::STDERR_FILENO;
 use printing::print;
@@ -92,7 +92,7 @@ fn sum_of_numbers(cells: &[u16]) -> u64 {
 
 // The two lines after each answer.
 pub fn print_state(s: State, forms: &[i32], pool: &[u16], lines: &[u16])
-    requires { ⌜ Inside s (now forms) (now pool) (now lines) ⌝ }
+    requires { ⌜ Lends s (now forms) (now pool) (now lines) ⌝ }
 {
     let session = s.session;
     let f = s.forms;

@@ -1,7 +1,7 @@
 // Obeys the commands of a text one after the other, T over the whole room and any other on what is lent of it.
 ghost use Prim.Native.Nat.{_≤_};
 ghost use lib.ListN.{length};
-ghost use Rattle.drive.specs.Inside.{Inside};
+ghost use Rattle.drive.specs.Lends.{Lends};
 use crate::commands::obey;
 use crate::say::print_state;
 use crate::tables::State;
@@ -10,8 +10,8 @@ use crate::tables::lend;
 
 // One command.
 fn step(s: State, forms: &mut [i32], pool: &mut [u16], lines: &mut [u16], text: &[u8]) -> Step
-    requires { ⌜ Inside s (now forms) (now pool) (now lines) ⌝ }
-    ensures { λ r. ⌜ (r .used ≤ length (now (text .entry))) × Inside (r .state) (now (forms .exit)) (now (pool .exit)) (now (lines .exit)) ⌝ }
+    requires { ⌜ Lends s (now forms) (now pool) (now lines) ⌝ }
+    ensures { λ r. ⌜ (r .used ≤ length (now (text .entry))) × Lends (r .state) (now (forms .exit)) (now (pool .exit)) (now (lines .exit)) ⌝ }
 {
     if records::numbers::byte_at(text, 0) == b'T' {
         return lend(s, forms, pool, lines, text);
@@ -46,8 +46,8 @@ fn step(s: State, forms: &mut [i32], pool: &mut [u16], lines: &mut [u16], text: 
 
 // Every whole command of the text, up to a bad one.
 pub fn steps(s: State, forms: &mut [i32], pool: &mut [u16], lines: &mut [u16], text: &[u8]) -> Step
-    requires { ⌜ Inside s (now forms) (now pool) (now lines) ⌝ }
-    ensures { λ r. ⌜ (r .used ≤ length (now (text .entry))) × Inside (r .state) (now (forms .exit)) (now (pool .exit)) (now (lines .exit)) ⌝ }
+    requires { ⌜ Lends s (now forms) (now pool) (now lines) ⌝ }
+    ensures { λ r. ⌜ (r .used ≤ length (now (text .entry))) × Lends (r .state) (now (forms .exit)) (now (pool .exit)) (now (lines .exit)) ⌝ }
 {
     let mut present = s;
     let mut at: usize = 0;

@@ -1,7 +1,7 @@
 // The room for the three tables, how much of it is lent, and the command that says so.
 ghost use Prim.Native.Nat.{_+_, _≤_};
 ghost use lib.ListN.{length};
-ghost use Rattle.drive.specs.Inside.{Inside, Within};
+ghost use Rattle.drive.specs.Lends.{Lends, Within};
 use session::state::Session;
 
 // 64 cells more than the limits name.
@@ -46,8 +46,8 @@ fn length_at(text: &[u8], at: usize) -> usize
 
 // T: other lengths, over tables that are 0 throughout, and the fresh session.
 pub fn lend(s: State, forms: &mut [i32], pool: &mut [u16], lines: &mut [u16], text: &[u8]) -> Step
-    requires { ⌜ Inside s (now forms) (now pool) (now lines) ⌝ }
-    ensures { λ r. ⌜ (r .used ≤ length (now (text .entry))) × Inside (r .state) (now (forms .exit)) (now (pool .exit)) (now (lines .exit)) ⌝ }
+    requires { ⌜ Lends s (now forms) (now pool) (now lines) ⌝ }
+    ensures { λ r. ⌜ (r .used ≤ length (now (text .entry))) × Lends (r .state) (now (forms .exit)) (now (pool .exit)) (now (lines .exit)) ⌝ }
 {
     if text.len() < 13 {
         return not_taken(s, false);

@@ -1,5 +1,5 @@
 -- A test of every element of a list, or of any: what it says of each, how a loop makes it one element at a time, and over a list that is
--- joined, cut or mapped.
+-- joined, cut or mapped; and the length of a list by index.
 use mathlib.Core.Path.{_≡_, refl, sym}
 use mathlib.Core.Bool.{Bool, true, false, not, _&&_, _||_, and-assoc, and-false}
 use mathlib.Core.List.{List, [], _∷_, _++_, map}
@@ -8,9 +8,9 @@ use Prim.Native.Nat.{ℕ, zero, suc, _+_, _≤_, _<_}
 use native.Mathlib.Numerals.{add-one}
 use native.Mathlib.Omega.{arith}
 use lib.Dec.{T}
-use lib.ListN.{length, getD, take, drop, drop-of-length-le}
+use lib.ListN.{length, getD, take, drop, length-append, drop-of-length-le}
 use lib.Seq.{drop-cons}
-use Rattle.ints.specs.Tests.{all, any}
+use Rattle.ints.specs.Tests.{all, any, upTo}
 use Rattle.ints.proofs.Bools.{T-and, and-T}
 
 module _ {A : Type 0} (p : A → Bool) (xs : List A) (i : ℕ) (d : A) where
@@ -84,3 +84,8 @@ all-and p q (x ∷ xs) = go (p x) (q x) (all-and p q xs)
     go true true e = e
     go true false e = and-false (all p xs)
     go false b e = refl
+
+pub length-upTo : {A : Type 0} (n : ℕ) (f : ℕ → A) → length (upTo n f) ≡ n
+unfolding upTo
+length-upTo zero f = refl
+length-upTo (suc n) f = rw length-append (omega (arith, length-upTo n f))

@@ -1,6 +1,6 @@
 -- The ring of the whole numbers. `simp ring` proves an equation of sums and products: both sides are multiplied out and sorted.
 use mathlib.Core.Path.{_≡_, sym, ap, ap₂, _∙_}
-use Prim.Native.Nat.{ℕ, _+_, _*_}
+use Prim.Native.Nat.{ℕ, _*_}
 use native.Mathlib.Omega.{arith}
 use lib.IntN.{ℤ, pos, negℤ, _+ℤ_, _*ℤ_, +ℤ-assoc, +ℤ-comm, +ℤ-idl, +ℤ-idr, +ℤ-invl, +ℤ-invr, *ℤ-comm, *ℤ-zero, zero-*ℤ, negℤ-+ℤ, negℤ-negℤ}
 use Rattle.ints.proofs.Parts.{up, down, add-parts, up-neg, down-neg, up-mul, down-mul, parts→eq, ints}

@@ -1,7 +1,7 @@
--- Tests of whole numbers and of lists, each a Bool that can be computed. Every test of the checker is made of these.
+-- Tests of whole numbers and of lists, each a Bool that can be computed, of which every test of the checker is made; and lists by index.
 use mathlib.Core.Bool.{Bool, true, false, _&&_, _||_}
-use mathlib.Core.List.{List, [], _∷_}
-use Prim.Native.Nat.{_%_}
+use mathlib.Core.List.{List, [], _∷_, _++_}
+use Prim.Native.Nat.{ℕ, zero, suc, _%_}
 use lib.Dec.{eqb}
 use lib.IntN.{ℤ, pos, negsuc, natAbs}
 use lib.Signed.{leZ}
@@ -34,3 +34,8 @@ module _ {A : Type 0} where
   abbrev pub any : (A → Bool) → List A → Bool
   any p [] = false
   any p (x ∷ xs) = p x || any p xs
+
+  -- f 0, f 1, up to f (n − 1)
+  unfoldable pub upTo : ℕ → (ℕ → A) → List A
+  upTo zero f = []
+  upTo (suc n) f = upTo n f ++ (f n ∷ [])

@@ -6,21 +6,16 @@ use Prim.Native.Nat.{ℕ, zero, suc, _-_, _≤_, _<_}
 use native.Mathlib.Omega.{arith}
 use native.Mathlib.Decide.{decLe, decLt}
 use lib.Dec.{T}
-use lib.ListN.{length, getD, take, drop, replicate, length-append, length-take, length-drop, take-append-drop, List·getD-append}
+use lib.ListN.{length, getD, take, drop, replicate, length-take, length-drop, take-append-drop, List·getD-append}
 use lib.Seq.{take-all, take-append-le, drop-at, getD-at, ext-getD}
-use Rattle.ints.specs.Tests.{all}
+use Rattle.ints.specs.Tests.{upTo, all}
 use Rattle.ints.proofs.Bools.{T-and, and-T}
-use Rattle.ints.proofs.Lists.{all-append}
-use Rattle.session.specs.Cells.{upTo, downFrom}
+use Rattle.ints.proofs.Lists.{all-append, length-upTo}
+use Rattle.session.specs.Cells.{downFrom}
 use Rattle.laid.specs.Laid.{padded}
 
 module _ {A : Type 0} where
   -- ---- upwards
-
-  pub length-upTo : (n : ℕ) (f : ℕ → A) → length (upTo n f) ≡ n
-  unfolding upTo
-  length-upTo zero f = refl
-  length-upTo (suc n) f = rw length-append (omega (arith, length-upTo n f))
 
   pub getD-upTo : (n : ℕ) (f : ℕ → A) (i : ℕ) (d : A) → i < n → getD (upTo n f) i d ≡ f i
   unfolding upTo

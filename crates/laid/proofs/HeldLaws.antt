@@ -2,6 +2,7 @@
 use mathlib.Core.Path.{_≡_, ap}
 use Prim.Native.Nat.{ℕ}
 use lib.ListN.{length}
+use Rattle.ints.proofs.Lists.{length-upTo}
 use Rattle.rows.specs.Form.{formAt}
 use Rattle.ledger.specs.Ledger.{literalCount}
 use Rattle.ledger.specs.Legal.{Legal}
@@ -10,7 +11,6 @@ use Rattle.session.specs.Cells.{Tables, lineAt, ledgerOf}
 use Rattle.session.proofs.Clauses.{Clauses, clauses}
 use Rattle.laid.specs.Laid.{tablesOf, sessionOf}
 use Rattle.laid.specs.Held.{Held}
-use Rattle.laid.proofs.ByIndex.{length-upTo}
 use Rattle.laid.proofs.OrderLaid.{legal-back, laid-back}
 
 module _ {n : ℕ} {s : Session} {t : Tables} (h : Held n s t) where

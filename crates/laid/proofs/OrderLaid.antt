@@ -11,9 +11,10 @@ use lib.Dec.{T, eqb, eqb→eq}
 use lib.IntN.{ℤ, pos}
 use lib.ListN.{length, getD, take, drop, length-take, length-drop}
 use lib.Seq.{take-add, take-suc, drop-cons}
-use Rattle.ints.specs.Tests.{eqZ}
+use Rattle.ints.specs.Tests.{upTo, eqZ}
 use Rattle.ints.proofs.Bools.{T-and}
 use Rattle.ints.proofs.Order.{eqZ→eq}
+use Rattle.ints.proofs.Lists.{length-upTo}
 use Rattle.rows.specs.Form.{cellsOf, formOf, cellsAt, formAt, legal}
 use Rattle.ledger.specs.Limits.{mostLevels}
 use Rattle.ledger.specs.Literals.{namesBelow}
@@ -24,11 +25,11 @@ use Rattle.ledger.proofs.LegalLaws.{literals-append}
 use Rattle.session.specs.declared.state.Mark.{Mark}
 use Rattle.session.specs.declared.state.Session.{Session}
 use Rattle.session.specs.Limits.{lineCells, formCells, formTable, poolTable, lineTable}
-use Rattle.session.specs.Cells.{Tables, noMark, countsOf, markAt, endBefore, literalsAt, upTo, downFrom, lineAt, levelAt, ledgerOf}
+use Rattle.session.specs.Cells.{Tables, noMark, countsOf, markAt, endBefore, literalsAt, downFrom, lineAt, levelAt, ledgerOf}
 use Rattle.session.specs.InOrder.{notAbove, isNoMark, order}
 use Rattle.session.proofs.Clauses.{notAbove→le, Clauses, clauses}
 use Rattle.laid.specs.Laid.{padded, formsLaid, poolLaid, linesLaid, tablesOf, marksLaid, sessionOf}
-use Rattle.laid.proofs.ByIndex.{length-upTo, getD-upTo, take-upTo, all-upTo, length-downFrom, padded-front}
+use Rattle.laid.proofs.ByIndex.{getD-upTo, take-upTo, all-upTo, length-downFrom, padded-front}
 use Rattle.laid.proofs.LaidParts.{forms-append, pool-append, lines-append}
 use Rattle.laid.specs.Held.{Exact}
 

@@ -9,10 +9,10 @@ use lib.Dec.{T, ltb→lt, lt→ltb, leb→le}
 use lib.ListN.{length, take, getD, length-append, List·getD-append}
 use lib.Seq.{getD-at, getD-take, length-take-le, take-length, take-append-le}
 use Rattle.ints.specs.Tests.{all}
-use Rattle.ints.proofs.Bools.{T-and, and-T}
+use Rattle.ints.proofs.Bools.{and-T}
 use Rattle.ints.proofs.Lists.{all-at, all-append, all-take, all-implies}
 use Rattle.rows.specs.Form.{Form, legal}
-use Rattle.ledger.specs.Limits.{mostForms, mostLines, mostLiterals, mostLevels, longestLine}
+use Rattle.ledger.specs.Limits.{mostForms, mostLines, mostLiterals, mostLevels}
 use Rattle.ledger.specs.Literals.{below}
 use Rattle.ledger.specs.Ledger.{Line, Mark, Ledger, fresh, noLine, literalCount}
 use Rattle.ledger.specs.Ledger.{New, newForm, newLine, add, opened, backTo, withdrawn}

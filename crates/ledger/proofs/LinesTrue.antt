@@ -3,12 +3,12 @@
 use mathlib.Core.Path.{_≡_, sym}
 use mathlib.Core.Bool.{and-true}
 use mathlib.Core.List.{List, [], _∷_, _++_}
-use Prim.Native.Nat.{ℕ, suc, _≤_, _<_}
+use Prim.Native.Nat.{ℕ, suc, _<_}
 use native.Mathlib.Omega.{arith}
 use native.Mathlib.Decide.{decLe}
-use lib.Dec.{T, ltb→lt, lt→ltb}
+use lib.Dec.{T, ltb→lt}
 use lib.ListN.{length, take, getD, length-append, length-take, List·getD-append}
-use lib.Seq.{getD-take, take-take, take-all, take-append-le, take-length, take-nil, length-take-le}
+use lib.Seq.{getD-take, take-take, take-all, take-append-le, take-length, take-nil}
 use Rattle.ints.specs.Tests.{all}
 use Rattle.ints.proofs.Bools.{T-and, and-T}
 use Rattle.ints.proofs.Lists.{all-at, all-implies}

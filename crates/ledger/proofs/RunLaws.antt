@@ -6,11 +6,9 @@ use mathlib.Core.List.{List, [], _∷_, _++_, flatten, reverse, reverseAux}
 use mathlib.Core.Logic.{inl, inr, _↔_}
 use Prim.Native.Nat.{ℕ, zero, suc, _+_, _≤_, _<_}
 use native.Mathlib.Omega.{arith}
-use lib.Dec.{T, leb, leb→le, lit≤}
+use lib.Dec.{T}
 use lib.ListN.{length, take, drop, getD, length-append, length-drop, take-append-drop}
 use lib.Seq.{take-all}
-use Rattle.ints.specs.Tests.{all}
-use Rattle.ints.proofs.Bools.{never, T-and}
 use Rattle.ledger.specs.Ledger.{Ledger, fresh}
 use Rattle.ledger.specs.Record.{Record, Made, Answer, accepted, refused, isAccepted, layout}
 use Rattle.ledger.specs.Checks.{countIn, checks}

@@ -1,10 +1,11 @@
 -- Records as bytes: their shape, and what they say.
 use mathlib.Core.Bool.{Bool, true, false, not, _&&_, _||_, cond}
 use mathlib.Core.List.{List, [], _∷_}
-use Prim.Native.Nat.{ℕ, zero, suc, _+_, _*_, _-_}
+use Prim.Native.Nat.{ℕ, _+_, _*_, _-_}
 use lib.Dec.{eqb, leb, ltb}
 use lib.IntN.{ℤ, pos, negsuc}
 use lib.ListN.{length, getD}
+use Rattle.ints.specs.Tests.{upTo}
 use Rattle.rows.specs.Form.{Form}
 use Rattle.rows.specs.Sum.{Term}
 use Rattle.ledger.specs.Limits.{carried}
@@ -27,11 +28,6 @@ signed n = cond (ltb n 0x8000_0000) (pos n) (negsuc (0xffff_ffff - n))
 
 abbrev pub i32At : List ℕ → ℕ → ℤ
 i32At b i = signed (u16At b i + 65536 * u16At b (i + 2))
-
--- f 0, f 1, up to f (n − 1)
-abbrev pub each : {A : Type 0} → ℕ → (ℕ → A) → List A
-each zero f = []
-each (suc n) f = f 0 ∷ each n (λ i. f (suc i))
 
 -- ---- the mark
 
@@ -75,15 +71,15 @@ shape b = (leb 2 (length b) else 3) ∷ shapeOf b (markOf b)
 -- ---- fields
 
 abbrev pub formFrom : List ℕ → Form
-formFrom b = record { kind = pos (byteAt b 2); divisor = pos (u16At b 3); row = each (carried + 1) (λ i. i32At b (5 + 4 * i)) }
+formFrom b = record { kind = pos (byteAt b 2); divisor = pos (u16At b 3); row = upTo (carried + 1) (λ i. i32At b (5 + 4 * i)) }
 
 -- as many literals as the count at place p says, from right behind it on
 abbrev pub literalsBehind : ℕ → List ℕ → List ℕ
-literalsBehind p b = each (byteAt b p) (λ i. u16At b (p + 1 + 2 * i))
+literalsBehind p b = upTo (byteAt b p) (λ i. u16At b (p + 1 + 2 * i))
 
 -- and terms
 abbrev pub termsBehind : ℕ → List ℕ → List Term
-termsBehind p b = each (byteAt b p) (λ i. record { form = u16At b (p + 1 + 6 * i); multiplier = i32At b (p + 3 + 6 * i) })
+termsBehind p b = upTo (byteAt b p) (λ i. record { form = u16At b (p + 1 + 6 * i); multiplier = i32At b (p + 3 + 6 * i) })
 
 abbrev pub ruleFrom : List ℕ → RuleMark → Rule
 ruleFrom b fm = FM (formFrom b)

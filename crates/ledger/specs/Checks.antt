@@ -14,7 +14,7 @@ use Rattle.rows.specs.Conditions.{sameRow, isOneMinus, isOneMore, isEither, tig
 use Rattle.ledger.specs.Limits.{mostForms, mostLines, mostLiterals, mostLevels, longestLine}
 use Rattle.ledger.specs.Literals.{unnegated, negated, formNamed, ascending, holds, joined, lineOf, without}
 use Rattle.ledger.specs.Ledger.{Line, premise, derived, Ledger, nthForm, nthRow, nthLine, literalCount, New, newForm, newLine}
-use Rattle.ledger.specs.Record.{Rule, FM, PM, RS, FK, TO, TR, EQ, TI, WK, CL, Record, make, OP, WD, RuleMark, pm, fk, cl, RecordMark, ofRule, layout}
+use Rattle.ledger.specs.Record.{Rule, FM, PM, RS, FK, TO, TR, EQ, TI, WK, CL, Record, make, OP, WD, pm, fk, cl, RecordMark, ofRule, layout}
 
 -- a test, and the refusal's number where it fails
 pub record Check : Type 0 where

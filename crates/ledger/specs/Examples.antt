@@ -6,7 +6,7 @@ use Prim.Native.Nat.{ℕ, _-_, _/_, _%_}
 use lib.Dec.{T, eqb}
 use lib.IntN.{ℤ, pos, negsuc}
 use lib.ListN.{length, replicate}
-use Rattle.ints.specs.Tests.{eqZ, eqZs, all}
+use Rattle.ints.specs.Tests.{upTo, eqZ, eqZs, all}
 use Rattle.rows.specs.Limits.{unknowns}
 use Rattle.rows.specs.Row.{Row, zeroRow}
 use Rattle.rows.specs.Form.{Form, atMost, isZero, isDivided, legal, legalMultiplier}
@@ -249,5 +249,5 @@ examples =
     ∷ []
 
 pub all-hold : T (all holds examples)
-unfolding holds legal legalMultiplier tightens farkas clash summedOnto flatMap
+unfolding holds legal legalMultiplier tightens farkas clash summedOnto flatMap upTo
 all-hold = tt

@@ -10,6 +10,7 @@ use borrow.Author.Tests.{eq-eqb, ne-eqb}
 use lib.Dec.{eqb, eqb→eq}
 use lib.ListN.{length, take, length-take, length-drop}
 use lib.Seq.{getD-take}
+use Rattle.ints.specs.Tests.{upTo}
 use Rattle.ints.proofs.Bools.{T-same, true→T}
 use Rattle.ledger.specs.Limits.{mostLines}
 use Rattle.ledger.specs.Ledger.{Line}
@@ -17,7 +18,7 @@ use Rattle.ledger.specs.Apply.{pass, fail}
 use Rattle.ledger.specs.Run.{refuted, notRefuted, standingFrom}
 use Rattle.session.specs.declared.state.Session.{Session}
 use Rattle.session.specs.Limits.{lineCells, poolTable, lineTable}
-use Rattle.session.specs.Cells.{Tables, named, endBefore, literalsAt, upTo, lineAt, ledgerOf}
+use Rattle.session.specs.Cells.{Tables, named, endBefore, literalsAt, lineAt, ledgerOf}
 use Rattle.session.specs.Calls.{entry, stands, noStanding, standsBy, standing}
 use Rattle.order.specs.Empty.{lowestEmpty}
 use Rattle.order.proofs.LineWalk.{rising}

@@ -1,22 +1,21 @@
 -- The record at the front of a stream: all the bytes, where they are too few for a mark, bear none, or their count is wrong or missing; else
 -- the bytes that its mark and its count require, which have the right shape where they are there.
-use mathlib.Core.Path.{_≡_, refl, sym, ap, _∙_}
-use mathlib.Core.Bool.{Bool, true, false, not, _||_, cond}
+use mathlib.Core.Path.{_≡_, refl, _∙_}
+use mathlib.Core.Bool.{Bool, true, false, cond}
 use mathlib.Core.List.{List, [], _∷_}
-use Prim.Native.Nat.{ℕ, zero, suc, _+_, _≤_, _<_}
+use Prim.Native.Nat.{ℕ, zero, suc, _≤_, _<_}
 use native.Mathlib.Omega.{arith}
 use native.Mathlib.Nat.{mul-zero, add-zero}
 use borrow.Author.Tests.{eq-eqb, ne-eqb, lt-ltb, le-ltb, lt-leb, le-leb}
-use lib.Dec.{eqb, ltb}
-use lib.ListN.{length, take, getD}
-use lib.Seq.{length-take-le, take-all, take-length, getD-take}
+use lib.ListN.{length, take}
+use lib.Seq.{length-take-le, getD-take}
 use Rattle.ledger.specs.Record.{RecordMark, layout}
 use Rattle.ledger.specs.Checks.{countIn}
 use Rattle.ledger.specs.Apply.{pass, fail, finding}
-use Rattle.ledger.specs.Bytes.{unknown, bears, markOf, bytesFor, countFrom, shapeOf, shape}
-use Rattle.ledger.specs.Run.{frontBytes, front}
+use Rattle.ledger.specs.Bytes.{unknown, bears, markOf, bytesFor, countFrom, shape}
+use Rattle.ledger.specs.Run.{front}
 use Rattle.ledger.proofs.LayoutLaws.{two-letters, count-behind, list-behind}
-use Rattle.records.specs.Marks.{OfMark, Whole, Misshapen, Requires}
+use Rattle.records.specs.Marks.{Whole, Misshapen, Requires}
 use Rattle.records.proofs.MarkLaws.{no-mark}
 
 -- ---- no mark

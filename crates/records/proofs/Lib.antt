@@ -1,5 +1,5 @@
 pub mod MarkLaws
 pub mod SignedLaws
-pub mod EachLaws
+pub mod FilledLaws
 pub mod WholeLaws
 pub mod FrontLaws

@@ -15,7 +15,7 @@ use mathlib.Core.Bool.{true, false}
 use Rattle.ints.specs.Tests.{all, divides}
 use Rattle.rows.specs.declared.sums.Reached.the-variants.{Coefficient, Constant}
 use Rattle.rows.specs.Row.{Row, zeroRow, plus, scaled}
-use Rattle.rows.specs.Sum.{Term, terms, summedOnto, summed, lowest, summand, Summable, Room, Small}
+use Rattle.rows.specs.Sum.{Term, terms, summedOnto, summed, lowest, summand, Summable, Addable, Small}
 use Rattle.rows.specs.Limits.{largestNumber, largestMultiplier}
 use Rattle.rows.specs.Form.{rowAt, inRange}
 use Rattle.rows.proofs.FormCells.{length-row}
@@ -121,7 +121,7 @@ module _ {n : ℕ} {table : List ℤ} {f : ℕ} {m : ℤ} (t : Summand n table f
   pub grown : Within (b + largestTerm) (plus sum (scaled m (rowAt n table f)))
   grown j = omega (arith, w j, added j, size-plus m sum (rowAt n table f) j)
 
-  pub room : b + largestTerm < 2 ^ 63 → length sum ≡ n + 1 → Room m sum (rowAt n table f)
+  pub room : b + largestTerm < 2 ^ 63 → length sum ≡ n + 1 → Addable m sum (rowAt n table f)
   room h l = record { same = l ∙ sym (length-row n table f (t .inside)); room = λ j. omega (arith, w j, added j) }
 
   pub length-grown : length sum ≡ n + 1 → length (plus sum (scaled m (rowAt n table f))) ≡ n + 1

@@ -64,7 +64,7 @@ pub record Summable (n : ℕ) (table : List ℤ) (picks : List ℕ) (multipliers
 -- ---- what one step of the sum asks
 
 -- there is a sum for each cell of the row, and each has room for m times the cell
-pub record Room (m : ℤ) (sums row : List ℤ) : Type 0 where
+pub record Addable (m : ℤ) (sums row : List ℤ) : Type 0 where
   pub same : length sums ≡ length row
   pub room : (j : ℕ) → natAbs (getD sums j (pos 0)) + natAbs m * natAbs (getD row j (pos 0)) < 2 ^ 63
 

@@ -4,7 +4,7 @@ ghost use Prim.Native.Nat.{_+_, _<_};
 ghost use Rattle.rows.specs.Limits.{unknowns};
 ghost use Rattle.rows.specs.Row.{plus, scaled};
 ghost use Rattle.rows.specs.Form.{rowAt};
-ghost use Rattle.rows.specs.Sum.{terms, summed, reached, Summable, Room, Small};
+ghost use Rattle.rows.specs.Sum.{terms, summed, reached, Summable, Addable, Small};
 
 // What a sum of rows reaches.
 pub enum Reached {
@@ -16,7 +16,7 @@ pub enum Reached {
 
 // The row's cells, m times, added to the sums.
 fn add_scaled(sums: &mut [i64], m: i32, row: &[i32])
-    requires { ⌜ Room m (now sums) (now row) ⌝ }
+    requires { ⌜ Addable m (now sums) (now row) ⌝ }
     ensures { λ _. ⌜ now (sums .exit) ≡ plus (now (sums .entry)) (scaled m (now (row .entry))) ⌝ }
 {
     let mut j: usize = 0;

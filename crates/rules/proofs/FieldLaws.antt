@@ -1,6 +1,6 @@
 -- What the rules propose, from what they read: a record's fields, forms that are low enough for their literals, a test that fails or passes
 -- behind others; and FM and PM.
-use mathlib.Core.Path.{_≡_, refl, sym, ap, ap₂, subst, _∙_}
+use mathlib.Core.Path.{_≡_, refl, sym, ap, subst, _∙_}
 use mathlib.Core.Bool.{Bool, true, false}
 use mathlib.Core.List.{List, [], _∷_, _++_}
 use Prim.Native.Nat.{ℕ, _≤_, _<_}

@@ -7,14 +7,15 @@ use native.Mathlib.Omega.{arith}
 use lib.Dec.{T}
 use lib.IntN.{ℤ}
 use lib.ListN.{length, length-take}
+use Rattle.ints.proofs.Lists.{length-upTo}
 use Rattle.rows.specs.Form.{formAt, legal, Inside}
 use Rattle.ledger.specs.Limits.{mostForms, longestLine}
 use Rattle.ledger.specs.Ledger.{Line, noForm, noLine, nthForm, nthLine}
 use Rattle.ledger.specs.Record.{Rule}
 use Rattle.ledger.specs.Checks.{tests}
 use Rattle.ledger.specs.Apply.{Finding, finding}
-use Rattle.session.specs.Cells.{tables, literalsAt, lineAt, upTo}
-use Rattle.laid.proofs.ByIndex.{length-upTo, getD-upTo}
+use Rattle.session.specs.Cells.{tables, literalsAt, lineAt}
+use Rattle.laid.proofs.ByIndex.{getD-upTo}
 use Rattle.rules.specs.Read.{FormsHeld, formsIn, LinesHeld, linesIn}
 
 -- what a rule's tests find on the forms that are read

@@ -1,5 +1,5 @@
 -- The terms that are read from a record's bytes, as the parts of the two lists that are lent.
-use mathlib.Core.Path.{_≡_, sym, ap, subst, _∙_}
+use mathlib.Core.Path.{_≡_, sym, ap, _∙_}
 use mathlib.Core.List.{List, _∷_}
 use Prim.Native.Nat.{ℕ, _-_, _≤_}
 use native.Mathlib.Nat.{sub-zero}
@@ -18,7 +18,7 @@ use Rattle.ledger.specs.Record.{behindLetters}
 use Rattle.ledger.specs.Checks.{Check, _else_, formIn, formsOf}
 use Rattle.ledger.specs.Apply.{Finding, pass, finding}
 use Rattle.ledger.proofs.Findings.{pass→passed}
-use Rattle.ledger.specs.Bytes.{byteAt, termsBehind}
+use Rattle.ledger.specs.Bytes.{termsBehind}
 use Rattle.records.specs.Fields.{Listed, TermsRead}
 use Rattle.rules.specs.Read.{FormsHeld, formsIn}
 use Rattle.rules.specs.Picks.{Paired}

@@ -5,14 +5,15 @@ use Prim.Native.Nat.{ℕ, suc, _+_, _≤_, _<_}
 use lib.Dec.{T}
 use lib.IntN.{ℤ}
 use lib.ListN.{length}
+use Rattle.ints.specs.Tests.{upTo}
 use Rattle.rows.specs.Form.{Form, formAt, legal}
 use Rattle.ledger.specs.Limits.{mostForms, mostLines, longestLine}
 use Rattle.ledger.specs.Ledger.{Line}
 use Rattle.ledger.specs.Record.{Rule, make, RS}
 use Rattle.ledger.specs.Apply.{finding, proposed}
 use Rattle.ledger.specs.Checks.{tests}
-use Rattle.session.specs.Limits.{formTable, poolTable, lineTable}
-use Rattle.session.specs.Cells.{tables, endBefore, lineAt, upTo}
+use Rattle.session.specs.Limits.{formTable, lineTable}
+use Rattle.session.specs.Cells.{tables, endBefore, lineAt}
 use Rattle.session.specs.Answers.{findingOf}
 use Rattle.session.specs.declared.answers.Verdict.{Verdict}
 use Rattle.proposals.specs.declared.Proposal.{Proposal}

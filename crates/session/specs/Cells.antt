@@ -8,6 +8,7 @@ use lib.IntN.{ℤ, pos}
 use lib.ListN.{length, getD, take, drop, replicate}
 use denote.Ref.{RefT, now}
 use denote.Triple.Both.{Both}
+use Rattle.ints.specs.Tests.{upTo}
 use Rattle.rows.specs.Form.{formAt}
 use Rattle.rows.specs.Limits.{unknowns, largestNumber, largestDivisor, largestMultiplier, mostTerms}
 use Rattle.ledger.specs.Limits.{mostForms, mostLines, mostLiterals, mostLevels, longestLine}
@@ -108,11 +109,6 @@ literalsAt pool lines i = take (endBefore lines (suc i) - endBefore lines i) (dr
 -- ---- the ledger read back
 
 module _ {A : Type 0} where
-  -- f 0, f 1, up to f (n − 1)
-  unfoldable pub upTo : ℕ → (ℕ → A) → List A
-  upTo zero f = []
-  upTo (suc n) f = upTo n f ++ (f n ∷ [])
-
   -- f (n − 1), down to f 0
   unfoldable pub downFrom : ℕ → (ℕ → A) → List A
   downFrom zero f = []

@@ -1,6 +1,5 @@
 -- What the call run does: the records and the bytes that it accepts, the number that stops it, the session and every lent cell afterwards,
 -- for every input.
-use mathlib.Core.Path.{_≡_}
 use mathlib.Core.List.{List, [], _∷_}
 use Prim.Native.Nat.{ℕ, _+_}
 use lib.ListN.{length}

@@ -3,7 +3,7 @@
 use mathlib.Core.List.{map}
 use Prim.Native.Nat.{ℕ}
 use Rattle.ledger.specs.Record.{Made, form, line, level, Answer, accepted, refused}
-use Rattle.ledger.specs.Run.{Standing, refuted, notRefuted}
+use Rattle.ledger.specs.Run.{refuted, notRefuted}
 use Rattle.session.specs.declared.state.Mark.{Mark as InnerMark}
 use Rattle.session.specs.declared.state.Session.{Session as InnerSession}
 use Rattle.session.specs.Cells.{Tables}

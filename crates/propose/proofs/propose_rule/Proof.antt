@@ -1,5 +1,4 @@
 use Rattle.session.specs.Limits.{formCells}
-use native.Mathlib.Nat.{sub-zero}
 use lib.ListN.{length, take}
 use lib.Seq.{length-take-le}
 use Rattle.propose.proofs.Laws.{fixed-of, counted-of, part-proposes}
@@ -7,8 +6,7 @@ use mathlib.Core.Path.{_≡_, refl}
 use native.Mathlib.Omega.{arith}
 use denote.Ref.{now}
 use Rattle.rows.specs.Limits.{unknowns}
-use Rattle.ledger.specs.Apply.{proposed}
-use Rattle.rules.specs.Read.{formsIn, linesIn}
+use Rattle.rules.specs.Read.{formsIn}
 use Rattle.rules.proofs.HeldLaws.{form-count}
 use borrow.Author.Needs.{needs}
 use Rattle.propose.proofs.propose_rule.Statement.{statement}

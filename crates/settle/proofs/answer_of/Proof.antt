@@ -1,4 +1,3 @@
-use mathlib.Core.Path.{refl}
 use borrow.Author.Needs.{needs}
 use Rattle.settle.proofs.answer_of.Statement.{statement}
 use Rattle.settle.proofs.answer_of.Tie as tie

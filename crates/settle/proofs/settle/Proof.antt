@@ -1,5 +1,4 @@
 use native.Mathlib.Nat.{sub-zero}
-use native.Mathlib.Omega.{arith}
 use borrow.Author.Needs.{needs}
 use Rattle.ledger.specs.Apply.{settles}
 use Rattle.settle.proofs.Tops.{seen-levels, seen-literals}

@@ -1,5 +1,5 @@
 -- `zarnowiej::zarnowiej_standing` meets its contract.
-use mathlib.Core.Path.{sym, ap, _∙_}
+use mathlib.Core.Path.{ap, _∙_}
 use Rattle.rows.specs.Limits.{unknowns}
 use Rattle.session.specs.Cells.{tables}
 use Rattle.session.specs.Calls.{standing}

@@ -2,14 +2,14 @@
 use mathlib.Core.Path.{_≡_}
 use Prim.Native.Nat.{_≤_}
 use lib.ListN.{length}
-use Rattle.drive.specs.Inside.{Inside}
+use Rattle.drive.specs.Lends.{Lends}
 use borrow.Author.Needs.{needs}
 use Rattle.drive.proofs.input.drive.Statement.{statement}
 use Rattle.drive.proofs.input.drive.Tie as tie
 
 abbrev Inv-loop : tie.InvT-loop
 Inv-loop forms₀ pool₀ lines₀ buffer₀ present₀ held₀ turns₀ forms pool lines buffer present held turns =
-    (length forms ≡ length forms₀) × (length pool ≡ length pool₀) × (length lines ≡ length lines₀) × (length buffer ≡ length buffer₀) × Inside present forms pool lines × (held ≤ length buffer)
+    (length forms ≡ length forms₀) × (length pool ≡ length pool₀) × (length lines ≡ length lines₀) × (length buffer ≡ length buffer₀) × Lends present forms pool lines × (held ≤ length buffer)
 
 abbrev μ-loop : tie.MeasureT-loop
 μ-loop forms₀ pool₀ lines₀ buffer₀ present₀ held₀ turns₀ forms pool lines buffer present held turns = turns

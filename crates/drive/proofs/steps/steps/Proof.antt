@@ -3,14 +3,14 @@ use mathlib.Core.Path.{_≡_}
 use Prim.Native.Nat.{_≤_, _-_}
 use native.Mathlib.Omega.{arith}
 use lib.ListN.{length}
-use Rattle.drive.specs.Inside.{Inside}
+use Rattle.drive.specs.Lends.{Lends}
 use borrow.Author.Needs.{needs}
 use Rattle.drive.proofs.steps.steps.Statement.{statement}
 use Rattle.drive.proofs.steps.steps.Tie as tie
 
 abbrev Inv-loop : tie.InvT-loop
 Inv-loop forms₀ pool₀ lines₀ text present₀ at₀ forms pool lines present at =
-    (length forms ≡ length forms₀) × (length pool ≡ length pool₀) × (length lines ≡ length lines₀) × Inside present forms pool lines × (at ≤ length text)
+    (length forms ≡ length forms₀) × (length pool ≡ length pool₀) × (length lines ≡ length lines₀) × Lends present forms pool lines × (at ≤ length text)
 
 abbrev μ-loop : tie.MeasureT-loop
 μ-loop forms₀ pool₀ lines₀ text present₀ at₀ forms pool lines present at = length text - at

@@ -1,4 +1,4 @@
-use Rattle.records.proofs.EachLaws.{Filled, filled-one, filled-all}
+use Rattle.records.proofs.FilledLaws.{Filled, filled-none, filled-one, filled-all}
 use Rattle.ledger.specs.Bytes.{byteAt, u16At, i32At}
 use Rattle.ledger.specs.Limits.{carried}
 use mir.ValLaws.{toZ-pos, toZ-ofZ}
@@ -59,7 +59,7 @@ slice-set-from-cells-2 c = search needs
 
 -- src/fields.rt:26:5
 loop-holds : tie.Need-loop-holds Inv-loop μ-loop
-loop-holds c = let b = now (c .before .before .before .args .bytes) in let kind : toZ w32 (byteAt b 2) ≡ pos (byteAt b 2) = toZ-pos w32 (byteAt b 2) (omega (arith, c .before .shared-slice-known2 .given 2)) in let divisor : toZ w32 (c .u16-at .result) ≡ pos (c .u16-at .result) = toZ-pos w32 (c .u16-at .result) (omega arith) in let two = two-set (now (c .before .before .before .args .cells)) (toZ w32 (byteAt b 2)) (toZ w32 (c .u16-at .result)) (omega (arith, c .before .before .before .pre .0)) in (omega arith, two .0 ∙ (rw (kind, divisor, c .u16-at .ensures)), record { size = omega (arith, two .1, c .before .before .before .pre .0); read = refl })
+loop-holds c = let b = now (c .before .before .before .args .bytes) in let kind : toZ w32 (byteAt b 2) ≡ pos (byteAt b 2) = toZ-pos w32 (byteAt b 2) (omega (arith, c .before .shared-slice-known2 .given 2)) in let divisor : toZ w32 (c .u16-at .result) ≡ pos (c .u16-at .result) = toZ-pos w32 (c .u16-at .result) (omega arith) in let two = two-set (now (c .before .before .before .args .cells)) (toZ w32 (byteAt b 2)) (toZ w32 (c .u16-at .result)) (omega (arith, c .before .before .before .pre .0)) in (omega arith, two .0 ∙ (rw (kind, divisor, c .u16-at .ensures)), filled-none (omega (arith, two .1, c .before .before .before .pre .0)))
 
 -- src/fields.rt:27:58
 mul-i32-at : tie.Need-mul-i32-at Inv-loop μ-loop

@@ -1,12 +1,11 @@
-use Rattle.records.proofs.EachLaws.{Filled, filled-one}
+use Rattle.records.proofs.FilledLaws.{Filled, filled-none, filled-one}
 use Rattle.ledger.specs.Bytes.{byteAt, u16At}
 use Rattle.ledger.specs.Limits.{longestLine}
-use lib.ListN.{length}
 use denote.Ref.{now}
 use borrow.Author.Needs.{needs}
 use native.Mathlib.Omega.{arith}
 use Prim.Native.Nat.{_≤_, _+_, _*_, _-_}
-use mathlib.Core.Path.{_≡_, refl}
+use mathlib.Core.Path.{_≡_}
 use Rattle.records.proofs.fields.read_literals.Statement.{statement}
 use Rattle.records.proofs.fields.read_literals.Tie as tie
 
@@ -26,7 +25,7 @@ add-from : tie.Need-add-from Inv-loop μ-loop
 add-from c = search needs
 
 loop-holds : tie.Need-loop-holds Inv-loop μ-loop
-loop-holds c = (omega arith, c .before .before .before .pre .1 .few, record { size = c .before .before .before .pre .0; read = refl })
+loop-holds c = (omega arith, c .before .before .before .pre .1 .few, filled-none (c .before .before .before .pre .0))
 
 mul-u16-at : tie.Need-mul-u16-at Inv-loop μ-loop
 mul-u16-at c = search needs

@@ -5,10 +5,9 @@ use borrow.Author.Needs.{sfits-of, needs}
 use denote.Ref.{now}
 use mir.Syntax.{w32}
 use mir.ValLaws.{toZ-ofZ}
-use lib.ListN.{length}
 use Rattle.rows.specs.Limits.{mostTerms}
 use Rattle.ledger.specs.Bytes.{byteAt, u16At, i32At}
-use Rattle.records.proofs.EachLaws.{Filled, filled-one, filled-terms}
+use Rattle.records.proofs.FilledLaws.{Filled, filled-none, filled-one, filled-terms}
 use Rattle.records.proofs.fields.read_terms.Statement.{statement}
 use Rattle.records.proofs.fields.read_terms.Tie as tie
 
@@ -33,7 +32,7 @@ add-second : tie.Need-add-second Inv-loop μ-loop
 add-second c = search needs
 
 loop-holds : tie.Need-loop-holds Inv-loop μ-loop
-loop-holds c = let p = c .before .before .before .pre in (omega arith, p .2 .few, record { size = p .0; read = refl }, record { size = p .1; read = refl })
+loop-holds c = let p = c .before .before .before .pre in (omega arith, p .2 .few, filled-none (p .0), filled-none (p .1))
 
 mul-u16-at : tie.Need-mul-u16-at Inv-loop μ-loop
 mul-u16-at c = search needs

@@ -1,4 +1,3 @@
-use borrow.Author.Needs.{needs}
 use Rattle.records.proofs.FrontLaws.{not-there, there-whole}
 use Rattle.records.proofs.shape.whole_front.Statement.{statement}
 use Rattle.records.proofs.shape.whole_front.Tie as tie

@@ -1,13 +1,6 @@
-use mathlib.Core.Path.{_≡_, ap, subst}
-use mathlib.Core.List.{List}
-use Prim.Native.Nat.{ℕ}
 use native.Mathlib.Nat.{sub-zero}
 use native.Mathlib.Omega.{arith}
-use denote.Ref.{now}
 use Rattle.rows.specs.Limits.{unknowns}
-use Rattle.ledger.specs.Record.{make, PM}
-use Rattle.ledger.specs.Apply.{proposed}
-use Rattle.proposals.specs.Proposing.{Proposes}
 use Rattle.rules.proofs.FieldLaws.{premise-refused, premise-made}
 use borrow.Author.Needs.{needs}
 use Rattle.rules.proofs.entries.premise.Statement.{statement}

@@ -1,5 +1,5 @@
 use native.Mathlib.Omega.{arith}
-use borrow.Author.Needs.{needs, sfits-of}
+use borrow.Author.Needs.{sfits-of}
 use Rattle.rules.proofs.HeldLaws.{form-inside}
 use Rattle.rules.proofs.FindingWalk.{whole, past, fails, passes}
 use Rattle.rules.proofs.FormTests.{KindRead, in-force, not-in-force, kind-is, kind-not}

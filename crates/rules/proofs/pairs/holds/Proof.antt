@@ -1,4 +1,3 @@
-use borrow.Author.Needs.{needs}
 use Rattle.ledger.specs.Apply.{finding}
 use Rattle.rules.proofs.pairs.holds.Statement.{statement}
 use Rattle.rules.proofs.pairs.holds.Tie as tie

@@ -1,11 +1,10 @@
 use mathlib.Core.Path.{refl, sym, _∙_}
-use mathlib.Core.List.{[], _∷_}
 use native.Mathlib.Omega.{arith}
 use denote.Ref.{now}
 use borrow.Author.Needs.{needs, sfits-of}
 use borrow.Author.Tests.{not-true, not-false}
 use mir.Syntax.{w32}
-use mir.Val.{toZ, ofZ, SFits}
+use mir.Val.{toZ, ofZ}
 use mir.ValLaws.{toZ-ofZ}
 use Rattle.rows.specs.Limits.{unknowns}
 use Rattle.rows.specs.Form.{atMost}

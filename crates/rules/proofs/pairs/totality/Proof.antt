@@ -7,7 +7,7 @@ use denote.Ref.{now}
 use borrow.Author.Needs.{needs}
 use Rattle.rows.specs.Limits.{unknowns}
 use Rattle.rows.specs.Row.{Row}
-use Rattle.rows.specs.Form.{atMost, isZero, isDivided}
+use Rattle.rows.specs.Form.{atMost}
 use Rattle.rows.specs.Conditions.{isOneMinus}
 use Rattle.ledger.specs.Record.{TO}
 use Rattle.ledger.specs.Literals.{unnegated, lineOf}

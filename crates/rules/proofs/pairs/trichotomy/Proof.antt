@@ -1,12 +1,7 @@
-use mathlib.Core.Path.{_≡_, refl, ap, ap₂, _∙_}
-use Prim.Native.Nat.{ℕ, _+_, _*_}
-use native.Mathlib.Nat.{add-zero}
-use native.Mathlib.Omega.{arith}
+use mathlib.Core.Path.{refl}
 use denote.Ref.{now}
-use mathlib.Core.List.{[], _∷_}
 use Rattle.rows.specs.Limits.{unknowns}
-use Rattle.ledger.specs.Literals.{unnegated, lineOf}
-use Rattle.ledger.specs.Checks.{tests, makes, derivedLine}
+use Rattle.ledger.specs.Checks.{tests, makes}
 use Rattle.ledger.specs.Record.{TR}
 use Rattle.proposals.proofs.Making.{as-rule}
 use Rattle.rules.proofs.FieldLaws.{of-fields, low-three}

@@ -1,12 +1,10 @@
 use mathlib.Core.Path.{refl, ap₂}
-use mathlib.Core.List.{[], _∷_}
 use Prim.Native.Nat.{ℕ}
 use native.Mathlib.Omega.{arith}
 use denote.Ref.{now}
 use borrow.Author.Needs.{needs}
 use Rattle.rows.specs.Limits.{unknowns}
-use Rattle.rows.specs.Row.{Row}
-use Rattle.rows.specs.Form.{atMost, isZero, isDivided}
+use Rattle.rows.specs.Form.{isZero, isDivided}
 use Rattle.rows.specs.Conditions.{sameRow}
 use Rattle.ledger.specs.Record.{WK}
 use Rattle.ledger.specs.Checks.{bothAre, tests, makes}

@@ -4,9 +4,9 @@ use Rattle.rules.proofs.HeldLaws.{line-few}
 use lib.ListN.{length}
 use native.Mathlib.Omega.{arith}
 use native.Mathlib.Nat.{sub-zero}
-use Prim.Native.Nat.{ℕ}
+use Prim.Native.Nat.{ℕ, _<_}
 use mathlib.Core.List.{List}
-use mathlib.Core.Path.{_≡_, sym, ap, _∙_}
+use mathlib.Core.Path.{sym, ap, _∙_}
 use borrow.Author.Tests.{ltb-true, ltb-false}
 use borrow.Author.Needs.{needs}
 use Rattle.rules.proofs.resolve.resolve.Statement.{statement}
@@ -151,7 +151,46 @@ same-length-7 : tie.Need-same-length-7
 same-length-7 c = search needs
 
 returns-7 : tie.Need-returns-7
-returns-7 c = λ n fs cells e. rw (c .derived .ensures) (let less = simp sub-zero at (sym (c .before .before .longer-than .ensures) ∙ c .before .if6 .left) in let u = (parent (c .before .before .before .before .before .before .before .before .before .before .before .before .before .before .before .before .before .before .literals-of .ensures) (c .before .before .before .before .before .before .before .before .before .before .before .before .before .before .before .gather .ensures) (omega (arith, ap (λ (x : List ℕ). length x) (c .before .before .before .before .before .before .before .before .before .before .before .before .before .before .before .before .before .before .literals-of .ensures), line-few (c .before .before .before .before .before .before .before .before .before .before .before .before .before .before .before .before .before .before .before .before .before .before .before .before .before .before .pre .0) (c .before .before .before .before .before .before .before .before .before .before .before .before .before .before .before .before .before .before .before .before .before .before .before .before .before .before .args .i) (omega arith), c .before .before .before .before .before .before .before .before .before .before .before .before .before .before .before .before .before .before .before .before .before .before .before .before .before .before .pre .2))) in let v = (parent (c .before .before .before .before .before .before .before .before .before .before .before .before .before .before .before .before .before .literals-of2 .ensures) (c .before .before .before .before .before .before .before .before .before .before .gather2 .ensures) (omega (arith, ap (λ (x : List ℕ). length x) (c .before .before .before .before .before .before .before .before .before .before .before .before .before .before .before .before .before .literals-of2 .ensures), line-few (c .before .before .before .before .before .before .before .before .before .before .before .before .before .before .before .before .before .before .before .before .before .before .before .before .before .before .pre .0) (c .before .before .before .before .before .before .before .before .before .before .before .before .before .before .before .before .before .before .before .before .before .before .before .before .before .before .args .j) (omega arith), c .before .before .before .before .before .before .before .before .before .before .before .before .before .before .before .before .before .before .before .before .before .before .before .before .before .before .pre .3))) in making n fs _ _ cells _ _ (resolved (c .before .before .before .before .before .before .before .before .before .before .before .before .before .before .before .before .before .before .before .before .before .before .before .before .before .before .pre .0) n (c .before .before .before .before .before .before .before .before .before .before .before .before .before .before .before .before .before .before .before .before .before .before .before .before .before .before .args .forms) fs e (c .before .before .before .before .before .before .before .before .before .before .before .before .before .before .before .before .before .before .before .before .before .before .before .before .before .before .args .pivot) (c .before .before .before .before .before .before .before .before .before .before .before .before .before .before .before .before .before .before .before .before .before .before .before .before .before .before .args .i) (c .before .before .before .before .before .before .before .before .before .before .before .before .before .before .before .before .before .before .before .before .before .before .before .before .before .before .args .j) (omega arith) (omega arith) (omega arith) u (c .before .before .before .before .before .before .before .before .before .before .before .before .if4 .left) v (c .before .before .before .before .before .before .before .if5 .left) (ltb-false _ _ less)) (the-line (c .before .before .before .before .before .before .before .before .before .before .before .before .before .before .before .before .before .before .before .before .before .before .before .before .before .before .pre .0) n (c .before .before .before .before .before .before .before .before .before .before .before .before .before .before .before .before .before .before .before .before .before .before .before .before .before .before .args .forms) fs e (c .before .before .before .before .before .before .before .before .before .before .before .before .before .before .before .before .before .before .before .before .before .before .before .before .before .before .args .pivot) (c .before .before .before .before .before .before .before .before .before .before .before .before .before .before .before .before .before .before .before .before .before .before .before .before .before .before .args .i) (c .before .before .before .before .before .before .before .before .before .before .before .before .before .before .before .before .before .before .before .before .before .before .before .before .before .before .args .j) (omega arith) (omega arith) (omega arith) u (c .before .before .before .before .before .before .before .before .before .before .before .before .if4 .left) v (c .before .before .before .before .before .before .before .if5 .left)) (record { first = omega (arith, c .before .before .before .before .before .before .before .before .before .before .before .before .before .before .before .gather .ensures .few, u .room); second = omega (arith, c .before .before .before .before .before .before .before .before .before .before .gather2 .ensures .few, v .room) }))
+returns-7 c =
+    let at-if5 = c .before .before .before .before .before .before .before in
+    let at-gather2 = at-if5 .before .before .before in
+    let at-if4 = at-gather2 .before .before in
+    let at-gather = at-if4 .before .before .before in
+    let at-literals-of2 = at-gather .before .before in
+    let at-literals-of = at-literals-of2 .before in
+    let at-if3 = at-literals-of .before in
+    let at-if2 = at-if3 .before in
+    let at-if1 = at-if2 .before in
+    let at-pre = at-if1 .before .before .before .before .before in
+    let low : at-pre .args .pivot < at-pre .args .forms = omega (arith, at-if1 .if1 .left) in
+    let left : at-pre .args .i < at-pre .args .count = omega (arith, at-if2 .if2 .left) in
+    let right : at-pre .args .j < at-pre .args .count = omega (arith, at-if3 .if3 .left) in
+    λ n fs cells e. rw (c .derived .ensures) (let less = simp sub-zero at (sym (c .before .before .longer-than .ensures) ∙ c .before .if6 .left) in
+    let u = (parent (at-literals-of .literals-of .ensures) (at-gather .gather .ensures) (omega (
+      arith,
+      ap (λ (x : List ℕ). length x) (at-literals-of
+          .literals-of .ensures),
+      line-few (at-pre .pre .0) (at-pre .args .i) left,
+      at-pre .pre .2,
+    ))) in
+    let v = (parent (at-literals-of2 .literals-of2 .ensures) (at-gather2 .gather2 .ensures) (omega (
+      arith,
+      ap (λ (x : List ℕ). length x) (at-literals-of2
+          .literals-of2 .ensures),
+      line-few (at-pre .pre .0) (at-pre .args .j) right,
+      at-pre .pre .3,
+    ))) in
+    making n fs _ _ cells _ _ (resolved (at-pre .pre .0) n (at-pre .args .forms) fs e (at-pre .args .pivot) (at-pre .args .i) (at-pre .args .j) low left
+    right u (at-if4 .if4 .left) v (at-if5 .if5 .left) (ltb-false _ _ less)) (the-line (at-pre .pre .0) n (at-pre .args .forms) fs e (at-pre .args .pivot)
+    (at-pre .args .i) (at-pre .args .j) low left right u (at-if4 .if4 .left) v (at-if5 .if5 .left)) (record {
+      first = omega (
+        arith,
+        at-gather .gather
+            .ensures .few,
+        u .room,
+      );
+      second = omega (arith, at-gather2 .gather2 .ensures .few, v .room);
+    }))
 
 pub resolve-spec : {M : Type 1} → statement M
 resolve-spec =

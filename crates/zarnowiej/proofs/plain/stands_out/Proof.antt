@@ -1,5 +1,5 @@
 -- `plain::stands_out` meets its contract.
-use mathlib.Core.Path.{_≡_, sym, ap, _∙_}
+use mathlib.Core.Path.{sym, ap, _∙_}
 use Rattle.session.specs.Calls.{noStanding, standsOf}
 use Rattle.zarnowiej.specs.Crossing.{standingOut}
 use borrow.Author.Needs.{needs}

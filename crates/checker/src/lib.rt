@@ -1,3 +1,3 @@
 // The checker's call on a session and its lent tables: feed, which takes one record.
 pub mod feed;
-mod keep;
+pub mod keep;

@@ -3,15 +3,10 @@ ghost use mathlib.Core.Path.{_≡_};
 ghost use Rattle.rows.specs.Limits.{unknowns};
 ghost use Rattle.session.specs.Answers.{answerOf};
 ghost use Rattle.session.specs.Cells.{asLent, asLeft};
-ghost use Rattle.checker.specs.Feed.{feed};
+ghost use Rattle.checker.specs.Feed.{resultOf, feed};
+use checker::keep::Fed;
 use session::answers::Answer;
 use session::state::Session;
-
-// The session afterwards, and the answer.
-pub struct Returned {
-    pub session: Session,
-    pub answer: Answer,
-}
 
 // One record, of any bytes, on any session and any tables.
 pub fn feed_lent(
@@ -38,11 +33,10 @@ pub fn feed_by_lending(
     pool: &mut [u16],
     lines: &mut [u16],
     bytes: &[u8],
-) -> Returned
-    ensures { λ r. ⌜ record { answer = answerOf (r .answer); session = r .session; tables = asLeft forms pool lines }
-        ≡ feed unknowns s (asLent forms pool lines) (now (bytes .entry)) ⌝ }
+) -> Fed
+    ensures { λ r. ⌜ resultOf r (asLeft forms pool lines) ≡ feed unknowns s (asLent forms pool lines) (now (bytes .entry)) ⌝ }
 {
     let mut session = s;
     let answer = feed_lent(&mut session, forms, pool, lines, bytes);
-    Returned { session, answer }
+    Fed { session, answer }
 }

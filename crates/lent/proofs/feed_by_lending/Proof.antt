@@ -50,11 +50,11 @@ use Rattle.session.specs.Answers.{answerOf}
 use Rattle.checker.specs.Feed.{feed}
 use Rattle.session.specs.declared.state.Session.{Session}
 use Rattle.session.specs.declared.answers.Answer.{Answer}
-use Rattle.lent.specs.declared.Returned.{Returned}
+use Rattle.checker.specs.declared.keep.Fed.{Fed}
 use Rattle.session.proofs.state.Session as Sessions
 use Rattle.session.proofs.state.Session.Laws as Sessions′
-use Rattle.lent.proofs.Returned as Returns
-use Rattle.lent.proofs.Returned.Laws as Returns′
+use Rattle.checker.proofs.keep.Fed as Feds
+use Rattle.checker.proofs.keep.Fed.Laws as Feds′
 use Rattle.session.proofs.answers.Answer as Answers
 use Rattle.session.proofs.answers.Answer.Laws as Answers′
 use Rattle.lent.proofs.feed_lent as core
@@ -88,12 +88,12 @@ vals = Structs.vals Sessions.the-type Sessions′.the-laws
 abbrev val : Session → Val
 val = Structs.val Sessions.the-type Sessions′.the-laws
 
-abbrev together : Session → Answer → Returned
+abbrev together : Session → Answer → Fed
 together s a = record { session = s; answer = a }
 
-is-returned : (s : Session) (a : Answer) → Is Sessions.the-row s (vals s) → Is Answers.the-row a (Enums.vals Answers.the-type Answers′.the-laws a)
-    → Is Returns.the-row (together s a) (Structs.vals Returns.the-type Returns′.the-laws (together s a))
-is-returned s a g is = Structs.owes Returns.the-type Returns′.the-laws (together s a) (g, (is, tt))
+is-fed : (s : Session) (a : Answer) → Is Sessions.the-row s (vals s) → Is Answers.the-row a (Enums.vals Answers.the-type Answers′.the-laws a)
+    → Is Feds.the-row (together s a) (Structs.vals Feds.the-type Feds′.the-laws (together s a))
+is-fed s a g is = Structs.owes Feds.the-type Feds′.the-laws (together s a) (g, (is, tt))
 
 is-there : (a : Answer) (vs : List Val) → Is Answers.the-row a vs → Is Answers.the-row a (Enums.vals Answers.the-type Answers′.the-laws a)
 is-there a vs is = subst (λ (us : List Val). Is Answers.the-row a us) (Enums.tells Answers.the-type Answers′.the-laws a vs is) is
@@ -211,19 +211,19 @@ module _ {M : Type 1} (𝓤 : URA M) (H : Heap 𝓤) (A : Atoms 𝓤) (W : Given
 
   exits : (r : Answer) (h′ : Session) (forms′ : List ℤ) (pool′ : List ℕ) (lines′ : List ℕ) → Said r h′ forms′ pool′ lines′
       → length forms′ ≡ length (forms .now) → length pool′ ≡ length (pool .now) → length lines′ ≡ length (lines .now)
-      → Is Returns.the-row (together h′ r) (Structs.vals Returns.the-type Returns′.the-laws (together h′ r))
+      → Is Feds.the-row (together h′ r) (Structs.vals Feds.the-type Feds′.the-laws (together h′ r))
       → ent 𝓤 (⋆ 𝓤 H A (tokens ∷ ‵ (finally i32 (forms .name) forms′) ∷ ‵ (finally u16 (pool .name) pool′) ∷ ‵ (finally u16 (lines .name) lines′) ∷
-      ‵ Bytes ∷ [])) (Post (Structs.val Returns.the-type Returns′.the-laws (together h′ r)))
+      ‵ Bytes ∷ [])) (Post (Structs.val Feds.the-type Feds′.the-laws (together h′ r)))
   exits r h′ forms′ pool′ lines′ said forms-length pool-length lines-length is =
       qed W (tokens ∷ ‵ (finally i32 (forms .name) forms′) ∷ ‵ (finally u16 (pool .name) pool′) ∷ ‵ (finally u16 (lines .name) lines′) ∷ ‵ Bytes ∷
       []) ∵
       suffices ! _ (ends-at 𝓤 H A f.ended stayed (f.clauses 𝓤 H A at-mem run) W ((lifetimes, shares, tt, a, at), tt)
-      (Structs.val Returns.the-type Returns′.the-laws (together h′ r)) (together h′ r) (tt, (forms′, (pool′, (lines′, (tt, tt)))))
+      (Structs.val Feds.the-type Feds′.the-laws (together h′ r)) (together h′ r) (tt, (forms′, (pool′, (lines′, (tt, tt)))))
       (tt, (forms-length, (pool-length, (lines-length, (tt, tt)))))) $
       says ! said $ frame ! $
       nothing ! $ move ! (4 ∷ 0 ∷ []) $ fjoin ! $ move ! (3 ∷ 0 ∷ []) $ fjoin ! $ move ! (2 ∷ 0 ∷ []) $ fjoin ! $ move ! (1 ∷ 0 ∷ []) $ fjoin ! $
       owned ! Sessions.the-row (Is Sessions.the-row) (Structs.makes Sessions.the-type Sessions′.the-plain 𝓤 H A) h _ g $ fjoin ! $
-      owned ! Returns.the-row (Is Returns.the-row) (Structs.makes Returns.the-type Returns′.the-plain 𝓤 H A) (together h′ r) _ is $
+      owned ! Feds.the-row (Is Feds.the-row) (Structs.makes Feds.the-type Feds′.the-plain 𝓤 H A) (together h′ r) _ is $
       move ! (1 ∷ 0 ∷ []) $ done !
 
   module _ (C : Calls 𝓤 H) (Λ : Loops 𝓤 H) (fm : FmC 𝓤 H (W .laws) C) (known : Triple 𝓤 (C #core) (Core 𝓤 H A at-mem run)) where
@@ -290,8 +290,8 @@ module _ {M : Type 1} (𝓤 : URA M) (H : Heap 𝓤) (A : Atoms 𝓤) (W : Given
         assigns ! (of-opd ! (load ! (from ! (stop !)) (look ! 1 refl))) (from ! (stop !))
         (init ! 9 refl (Structs.lawful Sessions.the-type Sessions′.the-laws 𝓤 H A W .typed (zs .0) _ g′ .0)) $
         assigns ! (agg ! (and-then ! (load ! (from ! (stop !)) (look ! 9 refl)) (and-then ! (load ! (from ! (stop !)) (look ! 25 refl))
-        (no-more !)))) (from ! (stop !)) (init ! 38 refl (Structs.lawful Returns.the-type Returns′.the-laws 𝓤 H A W .typed (together (zs .0) r) _
-        (is-returned (zs .0) r g′ (is-there r _ is)) .0)) $
+        (no-more !)))) (from ! (stop !)) (init ! 38 refl (Structs.lawful Feds.the-type Feds′.the-laws 𝓤 H A W .typed (together (zs .0) r) _
+        (is-fed (zs .0) r g′ (is-there r _ is)) .0)) $
         returns ! (look ! 38 refl) $ forget ! 9 refl $ forget ! 11 refl $ forget ! 13 refl $ forget ! 15 refl $ forget ! 17 refl $ forget ! 19 refl $
         forget ! 21 refl $ forget ! 23 refl $ forget ! 25 refl $ forget ! 1 refl $ forget ! 28 refl $ forget ! 30 refl $ forget ! 32 refl $
         forget ! 34 refl $ forget ! 36 refl $ forget ! 38 refl $
@@ -301,7 +301,7 @@ module _ {M : Type 1} (𝓤 : URA M) (H : Heap 𝓤) (A : Atoms 𝓤) (W : Given
         move ! (14 ∷ 15 ∷ []) $ free1 ! $ move ! (12 ∷ 13 ∷ []) $ free1 ! $ move ! (10 ∷ 11 ∷ []) $ free1 ! $ move ! (8 ∷ 9 ∷ []) $ free1 ! $
         free0 ! $
         keep ! (1 ∷ 6 ∷ 5 ∷ 3 ∷ 7 ∷ []) $ by ! (exits r (zs .0) (zs .1 .0) (zs .1 .1 .0) (zs .1 .1 .1 .0) said forms-length pool-length lines-length
-        (is-returned (zs .0) r g′ (is-there r _ is))))))))))))))))))))))))))))))
+        (is-fed (zs .0) r g′ (is-there r _ is))))))))))))))))))))))))))))))
 
 module _ {M : Type 1} (𝓤 : URA M) (H : Heap 𝓤) (A : Atoms 𝓤) (W : Given 𝓤 H A) (mem : Memory → SProp 𝓤) (run : Routine → Fun 𝓤) where
   walks : (C : Calls 𝓤 H) (Λ : Loops 𝓤 H) → FmC 𝓤 H (W .laws) C → Triple 𝓤 (C #core) (Core 𝓤 H A mem run) → Walks 𝓤 H A f.ended stayed

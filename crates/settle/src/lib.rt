@@ -1,4 +1,4 @@
-// One place settles what a record proposes: it tests the room, and writes. Nothing else changes a session or a table.
+// One place settles what a record proposes: it tests the room, and writes. After the start no cell is written from elsewhere.
 ghost use mathlib.Core.Path.{_≡_};
 ghost use Prim.Native.Nat.{_-_, _≤_, _<_};
 ghost use lib.ListN.{length};

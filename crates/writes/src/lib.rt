@@ -1,4 +1,4 @@
-// The three writes: one form more, one line more, and cells that become 0. Nothing else ever changes a table.
+// The three writes: one form more, one line more, and cells that become 0. After the start nothing else changes a table.
 ghost use mathlib.Core.Path.{_≡_};
 ghost use Prim.Native.Nat.{_≤_};
 ghost use Rattle.rows.specs.Limits.{unknowns};

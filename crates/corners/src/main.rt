@@ -1,7 +1,7 @@
 // Runs the sum of rows at the corners of what it takes, and just outside them, and prints what it reaches.
 ghost use Prim.Native.Nat.{_<_};
 use libc::STDOUT_FILENO;
-use rows::sums::Reached;
+use rows::Reached;
 
 fn print_signed(x: i64) {
     if x < 0 {
@@ -44,11 +44,11 @@ fn single(at: usize, number: i32) -> [i32; CELLS]
 }
 
 fn show(table: &[i32], picks: &[u16], multipliers: &[i32], modulus: i32) {
-    if !rows::summable::is_summable(table, picks, multipliers) {
+    if !sums::summable::is_summable(table, picks, multipliers) {
         io::write_all(STDOUT_FILENO, b"not summable\n");
         return;
     }
-    match rows::sums::combine(table, picks, multipliers, modulus) {
+    match sums::combine(table, picks, multipliers, modulus) {
         Reached::Coefficient(unknown, sum) => {
             io::write_all(STDOUT_FILENO, b"unknown ");
             io::print_decimal(STDOUT_FILENO, unknown as u64);

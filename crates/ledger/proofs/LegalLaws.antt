@@ -69,7 +69,7 @@ each-more P xs x d f p i h =
       | no q ↦ rw (getD-at xs x [] d i (omega (arith, length-append xs (x ∷ [])))) p
     ]
 
-legal-more : (k m : ℕ) (x : Line) → k ≤ m → LegalLine k x → LegalLine m x
+pub legal-more : (k m : ℕ) (x : Line) → k ≤ m → LegalLine k x → LegalLine m x
 legal-more k m x h g =
     record {
       origin = g .origin;

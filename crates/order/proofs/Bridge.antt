@@ -6,20 +6,22 @@ use Prim.Native.Nat.{ℕ, zero, suc, _+_, _*_, _-_, _≤_, _<_}
 use native.Mathlib.Omega.{arith}
 use native.Mathlib.Decide.{decLt}
 use borrow.Author.Tests.{lt-ltb, le-ltb}
-use lib.Dec.{T, eqb, ltb→lt, lt→ltb}
+use lib.Dec.{T, eqb}
 use lib.IntN.{pos}
 use lib.ListN.{drop}
 use Rattle.ints.specs.Tests.{eqZ, all}
 use Rattle.ints.proofs.Bools.{T-and, and-T}
-use Rattle.ints.proofs.Lists.{all-implies}
-use Rattle.ledger.specs.Literals.{below, namesBelow}
+use Rattle.ledger.specs.Literals.{namesBelow}
 use Rattle.ledger.specs.Checks.{Check, Passed}
+use Rattle.ledger.proofs.LegalLaws.{legal-more}
 use Rattle.session.specs.declared.state.Mark.{Mark}
 use Rattle.session.specs.declared.state.Session.{Session}
 use Rattle.session.specs.Limits.{formCells, lineCells}
-use Rattle.session.specs.Cells.{Tables, noMark, countsOf, markAt, endBefore, literalsAt, edge}
+use Rattle.session.specs.Cells.{Tables, tables, noMark, countsOf, markAt, endBefore, literalsAt, lineAt, edge}
 use Rattle.session.specs.InOrder.{notAbove, isNoMark, order, allPass}
-use Rattle.order.specs.Walk.{Counted, FormsGood, LineGood, LevelsGood, lower}
+use Rattle.walk.specs.Walk.{LineGood}
+use Rattle.walk.proofs.LineWalk.{short-line}
+use Rattle.order.specs.Levels.{Counted, FormsGood, LevelsGood, lower}
 use Rattle.session.proofs.Clauses.{notAbove→le, le→notAbove, Clauses, clauses, clauses-pass}
 
 passed : (cs : List Check) → T (allPass cs) → Passed cs
@@ -55,16 +57,24 @@ widen {pool} {lines} {n} {i} m h g =
     record {
       rise = g .rise;
       short = g .short;
-      origin = g .origin;
-      ascends = g .ascends;
-      names = all-implies (below n) (below m) (λ x u. omega (arith, ltb→lt, lt→ltb)) (literalsAt pool lines i) (g .names);
+      legal = legal-more n m (lineAt (tables [] pool lines) i) h (g .legal);
     }
 
 -- ---- from the clauses to the walk
 
 module _ {n : ℕ} (s : Session) (t : Tables) (f : Clauses n s t) where
   one-line : (m i : ℕ) → i < s .lines → T (namesBelow m (literalsAt (t .pool) (t .lines) i)) → LineGood (t .pool) (t .lines) m i
-  one-line m i h u = record { rise = f .rise i h; short = f .short i h; origin = f .origins i h; ascends = f .ascends i h; names = u }
+  one-line m i h u =
+      record {
+        rise = f .rise i h;
+        short = f .short i h;
+        legal = record {
+          origin = f .origins i h;
+          short = short-line (t .pool) (t .lines) i (f .short i h);
+          ascends = f .ascends i h;
+          names = u;
+        };
+      }
 
   held : (i : ℕ) → T (notAbove (edge s i) (countsOf s))
   held i =
@@ -183,13 +193,13 @@ module _ (n : ℕ) (s : Session) (t : Tables) where
         rise = λ i h. e i h .rise;
         short = λ i h. e i h .short;
         last = last-end s p l v;
-        origins = λ i h. e i h .origin;
-        ascends = λ i h. e i h .ascends;
-        names = λ i h. e i h .names;
+        origins = λ i h. e i h .legal .origin;
+        ascends = λ i h. e i h .legal .ascends;
+        names = λ i h. e i h .legal .names;
         marks-rise = mark-rises s p l v;
         marks-held = mark-held s p l v;
         marks-end = λ k h. sym (mark-end s p l v k h);
-        marks-name = λ k h i q. each-mark s p l v k h i q .names;
+        marks-name = λ k h i q. each-mark s p l v k h i q .legal .names;
         forms-zero = g .forms-zero;
         pool-zero = g .pool-zero;
         lines-zero = g .lines-zero;

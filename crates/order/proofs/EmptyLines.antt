@@ -21,7 +21,7 @@ use Rattle.session.specs.Limits.{lineCells, poolTable, lineTable}
 use Rattle.session.specs.Cells.{Tables, named, endBefore, literalsAt, lineAt, ledgerOf}
 use Rattle.session.specs.Calls.{entry, stands, noStanding, standsBy, standing}
 use Rattle.order.specs.Empty.{lowestEmpty}
-use Rattle.order.proofs.LineWalk.{rising}
+use Rattle.walk.proofs.LineWalk.{rising}
 use Rattle.order.proofs.Entry.{entry-long, entry-clauses}
 
 -- ---- the loop: line i of n

@@ -3,11 +3,12 @@ ghost use mathlib.Core.Path.{_≡_};
 ghost use Prim.Native.Nat.{_*_, _≤_};
 ghost use lib.Dec.{eqb};
 ghost use lib.IntN.{pos};
-ghost use lib.ListN.{length};
+ghost use lib.ListN.{length, drop};
 ghost use Rattle.ints.specs.Tests.{eqZ, all};
 ghost use Rattle.rows.specs.Limits.{unknowns};
 ghost use Rattle.session.specs.Limits.{formCells};
-ghost use Rattle.order.specs.Walk.{Exactly, FormsGood};
+ghost use Rattle.walk.specs.Walk.{Exactly};
+ghost use Rattle.order.specs.Levels.{FormsGood};
 use session::state::Session;
 
 // Whether every form below the count has a legal content.
@@ -19,7 +20,7 @@ pub fn forms_hold(forms: &[i32], count: usize) -> bool
     while f < count {
         let at = Session::FORM_CELLS * f;
         let end = at + Session::FORM_CELLS;
-        if !rows::content::legal(&forms[at..end]) {
+        if !conditions::content::legal(&forms[at..end]) {
             return false;
         }
         f += 1;
@@ -27,10 +28,10 @@ pub fn forms_hold(forms: &[i32], count: usize) -> bool
     true
 }
 
-pub fn forms_clear(cells: &[i32]) -> bool
-    ensures { λ r. ⌜ r ≡ all (λ c. eqZ c (pos 0)) (now (cells .entry)) ⌝ }
+pub fn forms_clear(cells: &[i32], from: usize) -> bool
+    ensures { λ r. ⌜ r ≡ all (λ c. eqZ c (pos 0)) (drop from (now (cells .entry))) ⌝ }
 {
-    let mut i: usize = 0;
+    let mut i = from;
     while i < cells.len() {
         let x = cells[i];
         if x != 0 {
@@ -41,10 +42,10 @@ pub fn forms_clear(cells: &[i32]) -> bool
     true
 }
 
-pub fn numbers_clear(cells: &[u16]) -> bool
-    ensures { λ r. ⌜ r ≡ all (λ c. eqb c 0) (now (cells .entry)) ⌝ }
+pub fn numbers_clear(cells: &[u16], from: usize) -> bool
+    ensures { λ r. ⌜ r ≡ all (λ c. eqb c 0) (drop from (now (cells .entry))) ⌝ }
 {
-    let mut i: usize = 0;
+    let mut i = from;
     while i < cells.len() {
         if cells[i] != 0 {
             return false;

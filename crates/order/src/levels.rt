@@ -1,4 +1,4 @@
-// The clauses of the order on lines and marks: one way through the lines, level by level.
+// The clauses of the order on marks, level by level; between two of them the lines are walked through.
 ghost use mathlib.Core.Path.{_≡_};
 ghost use Prim.Native.Nat.{_*_, _≤_};
 ghost use lib.ListN.{drop};
@@ -6,7 +6,8 @@ ghost use Rattle.ints.specs.Tests.{all};
 ghost use Rattle.ledger.specs.Limits.{mostLevels};
 ghost use Rattle.session.specs.Cells.{edge};
 ghost use Rattle.session.specs.InOrder.{notAbove, isNoMark};
-ghost use Rattle.order.specs.Walk.{Exactly, LinesGood, Stretch, Below, LevelGood, LevelsGood, Passable};
+ghost use Rattle.walk.specs.Walk.{Exactly};
+ghost use Rattle.order.specs.Levels.{Below, LevelGood, LevelsGood, Passable};
 use session::state::Mark;
 use session::state::Session;
 
@@ -21,61 +22,6 @@ fn not_above(a: Mark, b: Mark) -> bool
         return false;
     }
     a.literals <= b.literals
-}
-
-// Whether the lines between two marks are right. The first cell that breaks the order ends both loops.
-fn lines_hold(pool: &[u16], lines: &[u16], low: Mark, m: Mark) -> bool
-    requires { ⌜ Stretch (now pool) (now lines) low m ⌝ }
-    ensures { λ r. ⌜ Exactly r (LinesGood (now (pool .entry)) (now (lines .entry)) low m) ⌝ }
-{
-    let bound = 2 * m.forms;
-    let last = m.lines as usize;
-    let stop = m.literals as usize;
-    let mut ok = true;
-    let mut from = low.literals as usize;
-    let mut k = low.lines as usize;
-    'lines: while k < last {
-        let end = lines[Session::LINE_CELLS * k] as usize;
-        let origin = lines[Session::LINE_CELLS * k + 1];
-        if end < from {
-            ok = false;
-            break 'lines;
-        }
-        if from + Session::LONGEST_LINE < end {
-            ok = false;
-            break 'lines;
-        }
-        if stop < end {
-            ok = false;
-            break 'lines;
-        }
-        if origin < Session::PREMISE {
-            ok = false;
-            break 'lines;
-        }
-        if Session::DERIVED < origin {
-            ok = false;
-            break 'lines;
-        }
-        let mut least: u16 = 0;
-        let mut i = from;
-        while i < end {
-            let x = pool[i];
-            if x < least {
-                ok = false;
-                break 'lines;
-            }
-            if bound <= x {
-                ok = false;
-                break 'lines;
-            }
-            least = x + 1;
-            i += 1;
-        }
-        from = end;
-        k += 1;
-    }
-    ok
 }
 
 // Whether a mark is right after the one below it: it neither falls nor exceeds the counts, it ends where its lines end,
@@ -94,7 +40,7 @@ fn level_holds(pool: &[u16], lines: &[u16], here: Mark, low: Mark, m: Mark) -> b
     if session::lines::end_before(lines, k) != m.literals {
         return false;
     }
-    lines_hold(pool, lines, low, m)
+    walk::lines_hold(pool, lines, low, m)
 }
 
 // The mark of level i, or the present counts above the open levels.

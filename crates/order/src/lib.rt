@@ -10,7 +10,8 @@ ghost use Rattle.session.specs.Cells.{Sized, Long, named, asGiven, asLent};
 ghost use Rattle.session.specs.InOrder.{order, allPass};
 ghost use Rattle.session.specs.Answers.{findingOf};
 ghost use Rattle.session.specs.Calls.{entry};
-ghost use Rattle.order.specs.Walk.{Exactly, Counted};
+ghost use Rattle.walk.specs.Walk.{Exactly};
+ghost use Rattle.order.specs.Levels.{Counted};
 use session::answers::Refusal;
 use session::answers::Verdict;
 use session::state::Session;
@@ -50,15 +51,15 @@ fn ordered(s: Session, forms: &[i32], pool: &[u16], lines: &[u16]) -> bool
         return false;
     }
     let cells = Session::FORM_CELLS * count;
-    if !crate::cells::forms_clear(&forms[cells..Session::FORM_TABLE]) {
+    if !crate::cells::forms_clear(forms, cells) {
         return false;
     }
     let literals = s.literals as usize;
-    if !crate::cells::numbers_clear(&pool[literals..Session::POOL]) {
+    if !crate::cells::numbers_clear(pool, literals) {
         return false;
     }
     let ends = Session::LINE_CELLS * (s.lines as usize);
-    crate::cells::numbers_clear(&lines[ends..Session::LINE_TABLE])
+    crate::cells::numbers_clear(lines, ends)
 }
 
 // Whether session and tables are in order; of longer tables the excess is not read.

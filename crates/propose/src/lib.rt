@@ -37,7 +37,7 @@ fn propose_rule(
     match m {
         RuleMark::Fm => { rules::entries::form(bytes, &mut cells[0..Session::FORM_CELLS]) },
         RuleMark::Pm => rules::entries::premise(count, bytes, second),
-        RuleMark::Rs => rules::resolve::resolve(
+        RuleMark::Rs => resolution::resolve(
             count,
             counts.lines,
             pool,
@@ -48,13 +48,13 @@ fn propose_rule(
             first,
             second,
         ),
-        RuleMark::Fk => rules::sums::farkas(count, forms, bytes, cells, first, second),
-        RuleMark::To => rules::pairs::totality(count, forms, bytes, first, second),
-        RuleMark::Tr => rules::pairs::trichotomy(count, forms, bytes, first, second),
-        RuleMark::Eq => rules::pairs::equation(count, forms, bytes, first, second),
-        RuleMark::Ti => rules::pairs::tightening(count, forms, bytes, first, second),
-        RuleMark::Wk => rules::pairs::weakening(count, forms, bytes, first, second),
-        RuleMark::Cl => rules::sums::clash(count, forms, bytes, cells, first, second),
+        RuleMark::Fk => terms::farkas(count, forms, bytes, cells, first, second),
+        RuleMark::To => pairs::totality(count, forms, bytes, first, second),
+        RuleMark::Tr => pairs::trichotomy(count, forms, bytes, first, second),
+        RuleMark::Eq => pairs::equation(count, forms, bytes, first, second),
+        RuleMark::Ti => pairs::tightening(count, forms, bytes, first, second),
+        RuleMark::Wk => pairs::weakening(count, forms, bytes, first, second),
+        RuleMark::Cl => terms::clash(count, forms, bytes, cells, first, second),
     }
 }
 

@@ -3,5 +3,5 @@ pub mod RowLaws
 pub mod TermLaws
 pub mod SumLaws
 pub mod Value
-pub mod Reached
+pub mod Reaching
 pub mod Sound

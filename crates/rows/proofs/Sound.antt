@@ -21,7 +21,7 @@ use Rattle.rows.specs.Sum.{Term, summed}
 use Rattle.rows.specs.Conditions.{sameRow, isOneMinus, isOneMore, isEither, tightens, farkas, clash}
 use Rattle.rows.specs.Truth.{Integers, weighed, value, formTrue}
 use Rattle.rows.proofs.Value.{weighed-scaled, value-minus, value-oneMinus, value-oneMore, weighedSum, value-summed}
-use Rattle.rows.proofs.Reached.{farkas-is}
+use Rattle.rows.proofs.Reaching.{farkas-is}
 
 -- ---- what a form of each kind says
 

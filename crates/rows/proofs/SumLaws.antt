@@ -13,7 +13,7 @@ use Rattle.ints.proofs.Size.{natAbs-add, natAbs-mul, sizes, within}
 use lib.Dec.{T}
 use mathlib.Core.Bool.{true, false}
 use Rattle.ints.specs.Tests.{all, divides}
-use Rattle.rows.specs.declared.sums.Reached.the-variants.{Coefficient, Constant}
+use Rattle.rows.specs.declared.Reached.the-variants.{Coefficient, Constant}
 use Rattle.rows.specs.Row.{Row, zeroRow, plus, scaled}
 use Rattle.rows.specs.Sum.{Term, terms, summedOnto, summed, lowest, summand, Summable, Addable, Small}
 use Rattle.rows.specs.Limits.{largestNumber, largestMultiplier}

@@ -7,8 +7,8 @@ use lib.Dec.{T, eqb, leb}
 use lib.IntN.{ℤ, pos, negℤ, natAbs}
 use lib.ListN.{length, getD}
 use Rattle.ints.specs.Tests.{divides, between, all}
-use Rattle.rows.specs.declared.sums.Reached.{Reached}
-use Rattle.rows.specs.declared.sums.Reached.the-variants.{Coefficient, Constant}
+use Rattle.rows.specs.declared.Reached.{Reached}
+use Rattle.rows.specs.declared.Reached.the-variants.{Coefficient, Constant}
 use Rattle.rows.specs.Limits.{largestMultiplier, mostTerms}
 use Rattle.rows.specs.Row.{Row, constant, coefficients, zeroRow, scaled, plus}
 use Rattle.rows.specs.Form.{rowAt, inRange}

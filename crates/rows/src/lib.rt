@@ -1,12 +1,11 @@
-// Arithmetic on rows over lent cells: cutting forms out of a table, sums, comparisons, tightening and legal content.
-// Nothing here writes to a table, and nothing knows of lines, levels or records.
-pub mod cells;
-pub mod compare;
-pub mod content;
-pub mod exact;
-pub mod summable;
-pub mod sums;
-pub mod tighten;
+// What rows and forms are, and the laws of the arithmetic on them. The crates above work on lent cells; here are only the numbers that they
+// share, and what a sum of rows reaches.
+pub enum Reached {
+    // The lowest unknown whose sum is no multiple of the modulus, with that sum.
+    Coefficient(usize, i64),
+    // Every unknown's sum is a multiple: the sum of the constants.
+    Constant(i64),
+}
 
 // The kinds of forms.
 pub const AT_MOST: i32 = 1;

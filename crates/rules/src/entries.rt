@@ -25,7 +25,7 @@ pub fn form(bytes: &[u8], cells: &mut [i32]) -> Proposal
     ensures { λ r. ⌜ ProposesForm unknowns (FM (formFrom (now (bytes .entry)))) r (now (cells .exit)) ⌝ }
 {
     records::fields::read_form(cells, bytes);
-    if !rows::content::legal(cells) {
+    if !conditions::content::legal(cells) {
         return Proposal::Refused(Refusal::IllegalContent);
     }
     Proposal::Form

@@ -1,6 +1,3 @@
-// For each mark of a rule the function that judges a record and says what it proposes. It reads what it judges by: a rule on forms the form
-// table and the count of forms, RS the pool and the line table; and it writes only what is lent for the form's cells and the line's literals.
+// What a judging function may take for granted and what it answers, and the judges of what the office enters: FM and PM. The other rules have
+// a crate each kind: `pairs`, `terms` and `resolution`. A judge reads only what it judges by, and writes only what is lent for its proposal.
 pub mod entries;
-pub mod pairs;
-pub mod resolve;
-pub mod sums;

@@ -2,7 +2,7 @@
 use native.Mathlib.Omega.{arith}
 use borrow.Author.Tests.{leb-true, le-leb}
 use borrow.Author.Needs.{needs}
-use Rattle.order.proofs.Says.{say-no}
+use Rattle.walk.proofs.Says.{say-no}
 use Rattle.order.proofs.counts_hold.Statement.{statement}
 use Rattle.order.proofs.counts_hold.Tie as tie
 

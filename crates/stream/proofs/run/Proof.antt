@@ -1,4 +1,4 @@
--- `checker::run::run` meets its contract.
+-- `stream::run` meets its contract.
 use mathlib.Core.Path.{_≡_, sym, ap, _∙_}
 use borrow.Author.Needs.{needs}
 use lib.ListN.{length, length-map}

@@ -1,4 +1,4 @@
--- `rules::resolve::gather` meets its contract. Invariant: what is filled in, then what is left of the line less the literal, is the whole.
+-- `literals::gather::gather` meets its contract. Invariant: what is filled in, then what is left of the line less the literal, is the whole.
 use mathlib.Core.Path.{_≡_, refl}
 use mathlib.Core.Bool.{Bool, not}
 use mathlib.Core.List.{_++_}

@@ -1,4 +1,4 @@
--- `rules::lists::all_below` meets its contract. The loop's invariant: the test of the forms from i on is the test of all.
+-- `literals::tests::all_below` meets its contract. The loop's invariant: the test of the forms from i on is the test of all.
 use mathlib.Core.Path.{_≡_, refl, sym, _∙_}
 use mathlib.Core.Bool.{Bool}
 use Prim.Native.Nat.{ℕ, _-_, _≤_}

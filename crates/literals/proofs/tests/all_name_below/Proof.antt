@@ -1,4 +1,4 @@
--- `rules::lists::all_name_below` meets its contract. The loop's invariant: the test of the literals from i on is the test of all.
+-- `literals::tests::all_name_below` meets its contract. The loop's invariant: the test of the literals from i on is the test of all.
 use mathlib.Core.Path.{_≡_, refl, sym, _∙_}
 use mathlib.Core.Bool.{true}
 use Prim.Native.Nat.{_-_, _≤_}

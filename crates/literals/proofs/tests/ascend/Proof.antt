@@ -1,4 +1,4 @@
--- `rules::lists::ascend` meets its contract. The loop's invariant: whether the numbers from i - 1 on ascend is whether all do.
+-- `literals::tests::ascend` meets its contract. The loop's invariant: whether the numbers from i - 1 on ascend is whether all do.
 use mathlib.Core.Path.{_≡_, refl, sym, _∙_}
 use mathlib.Core.Bool.{Bool, true, _&&_}
 use mathlib.Core.List.{List, [], _∷_}

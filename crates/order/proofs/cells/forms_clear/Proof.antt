@@ -1,7 +1,7 @@
--- `order::cells::forms_clear` meets its contract. The loop's invariant: the test of the cells from i on is the test of all.
+-- `order::cells::forms_clear` meets its contract. The loop's invariant: the test of the cells from i on is the test from `from` on.
 use mathlib.Core.Path.{_≡_, refl, sym, _∙_}
 use mathlib.Core.Bool.{Bool}
-use Prim.Native.Nat.{_-_, _≤_}
+use Prim.Native.Nat.{_-_}
 use native.Mathlib.Omega.{arith}
 use borrow.Author.Needs.{needs, sfits-of}
 use lib.Dec.{lit<}
@@ -18,13 +18,13 @@ abbrev clear : ℤ → Bool
 clear x = eqZ x (pos 0)
 
 abbrev Inv-loop : tie.InvT-loop
-Inv-loop cells i₀ i = (i ≤ length cells) × (all clear (drop i cells) ≡ all clear cells)
+Inv-loop cells from i₀ i = all clear (drop i cells) ≡ all clear (drop from cells)
 
 abbrev μ-loop : tie.MeasureT-loop
-μ-loop cells i₀ i = length cells - i
+μ-loop cells from i₀ i = length cells - i
 
 loop-holds : tie.Need-loop-holds Inv-loop μ-loop
-loop-holds c = (search needs, refl)
+loop-holds c = refl
 
 mul-x : tie.Need-mul-x Inv-loop μ-loop
 mul-x c = search needs
@@ -37,7 +37,7 @@ returns c =
     let l = c .before .before .before in
     let xs = l .before .args .cells .now in
     let e = bits-differ w32 (getD xs (l .loop .i) (pos 0)) (pos 0) (sfits-of (c .before .x .given)) (record { sfits = lit< tt }) (c .if1 .taken) in
-    sym (all-fails clear xs (l .loop .i) (pos 0) (omega arith) e) ∙ l .loop .inv .1
+    sym (all-fails clear xs (l .loop .i) (pos 0) (omega arith) e) ∙ l .loop .inv
 
 add-i : tie.Need-add-i Inv-loop μ-loop
 add-i c = search needs
@@ -50,10 +50,10 @@ loop-again c =
     let l = c .before .before .before in
     let xs = l .before .args .cells .now in
     let e = bits-same w32 (getD xs (l .loop .i) (pos 0)) (pos 0) (sfits-of (c .before .x .given)) (record { sfits = lit< tt }) (c .if1 .left) in
-    (omega arith, sym (all-next clear xs (l .loop .i) (pos 0) (omega arith) e) ∙ l .loop .inv .1)
+    sym (all-next clear xs (l .loop .i) (pos 0) (omega arith) e) ∙ l .loop .inv
 
 returns-2 : tie.Need-returns-2 Inv-loop μ-loop
-returns-2 c = let l = c .before in sym (all-over clear (l .before .args .cells .now) (l .loop .i) (pos 0) (omega arith)) ∙ l .loop .inv .1
+returns-2 c = let l = c .before in sym (all-over clear (l .before .args .cells .now) (l .loop .i) (pos 0) (omega arith)) ∙ l .loop .inv
 
 pub forms-clear-spec : {M : Type 1} → statement M
 forms-clear-spec =

@@ -11,7 +11,7 @@ use Rattle.ints.proofs.Bools.{true→T}
 use Rattle.rows.specs.Limits.{unknowns}
 use Rattle.rows.specs.Form.{formOf, formAt, legal}
 use Rattle.session.specs.Limits.{formCells}
-use Rattle.order.proofs.Says.{say-yes, say-no}
+use Rattle.walk.proofs.Says.{say-yes, say-no}
 use Rattle.order.proofs.cells.forms_hold.Statement.{statement}
 use Rattle.order.proofs.cells.forms_hold.Tie as tie
 

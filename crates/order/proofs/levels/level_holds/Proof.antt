@@ -6,7 +6,7 @@ use borrow.Author.Needs.{needs}
 use lib.Dec.{T}
 use Rattle.ints.proofs.Bools.{true→T}
 use Rattle.session.specs.InOrder.{notAbove}
-use Rattle.order.proofs.Says.{say-no}
+use Rattle.walk.proofs.Says.{say-no}
 use Rattle.session.proofs.Clauses.{notAbove→le}
 use Rattle.order.proofs.levels.level_holds.Statement.{statement}
 use Rattle.order.proofs.levels.level_holds.Tie as tie

@@ -9,8 +9,9 @@ use borrow.Author.Tests.{not-true, not-false}
 use borrow.Author.Needs.{needs}
 use Rattle.session.specs.declared.state.Mark.{Mark}
 use Rattle.session.specs.Cells.{countsOf, endBefore, edge}
-use Rattle.order.specs.Walk.{Exactly, Below, LevelGood, lower}
-use Rattle.order.proofs.Says.{say-yes, say-no, denied}
+use Rattle.walk.specs.Walk.{Exactly}
+use Rattle.order.specs.Levels.{Below, LevelGood, lower}
+use Rattle.walk.proofs.Says.{say-yes, say-no, denied}
 use Rattle.order.proofs.levels.levels_hold.Statement.{statement}
 use Rattle.order.proofs.levels.levels_hold.Tie as tie
 

@@ -6,7 +6,7 @@ use native.Mathlib.Omega.{arith}
 use borrow.Author.Needs.{needs}
 use Rattle.session.specs.Cells.{endBefore}
 use Rattle.order.specs.Empty.{lowestEmpty}
-use Rattle.order.proofs.LineWalk.{end-next}
+use Rattle.walk.proofs.LineWalk.{end-next}
 use Rattle.order.proofs.EmptyLines.{empty-here, not-here, none-empty}
 use Rattle.order.proofs.standing.lowest_empty.Statement.{statement}
 use Rattle.order.proofs.standing.lowest_empty.Tie as tie

@@ -1,0 +1,3 @@
+pub mod TermParts
+pub mod TermTests
+pub mod LentTerms

@@ -1,65 +1,88 @@
 // The calls of the library on a trial. The letter of a call is that of its step, and l that of a feed with the session lent.
 ghost use Prim.Native.Nat.{_≤_};
 use crate::differ::trials_differ;
-use crate::said::Said;
-use crate::said::answers_differ;
-use crate::said::print_said;
-use crate::trial::Lengths;
+use crate::trial::FORM_ROOM;
+use crate::trial::LINE_ROOM;
+use crate::trial::POOL_ROOM;
 use crate::trial::Trial;
+use checker::keep::Fed;
 use printing::print;
+use printing::print_answer;
+use printing::print_refused;
+use printing::print_standing;
+use printing::print_start;
+use session::answers::Answer;
+use session::answers::Made;
+use session::answers::Verdict;
+use session::answers::number;
 use session::state::Session;
 
+// The session that a call left, and the number of a feed's answer.
 struct Outcome {
     session: Session,
-    said: Said,
+    answer: u32,
 }
 
-// What a call left, and what it said.
-struct Left {
-    trial: Trial,
-    said: Said,
+// No two answers have the same number here.
+fn number_of(answer: Answer) -> u32 {
+    match answer {
+        Answer::Accepted(made) => match made {
+            Made::Form(n) => n as u32,
+            Made::Line(n) => 65_536 + n as u32,
+            Made::Level(n) => 131_072 + n as u32,
+        },
+        Answer::Refused(why) => 196_608 + number(why) as u32,
+    }
 }
 
-fn by_value(
+// What a feed came to, with its answer printed for f alone.
+fn told(letter: u8, fed: Fed) -> Outcome {
+    let session = fed.session;
+    let answer = fed.answer;
+    if letter == b'f' {
+        print_answer(answer);
+    }
+    Outcome {
+        session,
+        answer: number_of(answer),
+    }
+}
+
+fn fed(
+    letter: u8,
     s: Session,
     forms: &mut [i32],
     pool: &mut [u16],
     lines: &mut [u16],
     record: &[u8],
 ) -> Outcome {
-    let fed = checker::feed::feed(s, forms, pool, lines, record);
-    let session = fed.session;
-    let answer = fed.answer;
-    Outcome {
-        session,
-        said: Said::Fed(answer),
+    if letter == b'l' {
+        return told(letter, lent::feed_by_lending(s, forms, pool, lines, record));
+    }
+    told(letter, checker::feed::feed(s, forms, pool, lines, record))
+}
+
+fn print_found(verdict: Verdict) {
+    match verdict {
+        Verdict::Pass => print(b"in order\n"),
+        Verdict::Fail(why) => print_refused(why),
     }
 }
 
-fn by_lending(
-    s: Session,
-    forms: &mut [i32],
-    pool: &mut [u16],
-    lines: &mut [u16],
-    record: &[u8],
-) -> Outcome {
-    let fed = lent::feed_by_lending(s, forms, pool, lines, record);
-    let session = fed.session;
-    let answer = fed.answer;
-    Outcome {
-        session,
-        said: Said::Fed(answer),
+// The order test, or the question of the standing.
+fn ask(letter: u8, s: Session, forms: &[i32], pool: &[u16], lines: &[u16]) {
+    if letter == b'o' {
+        return print_found(order::entered(s, forms, pool, lines));
     }
+    print_standing(order::standing::standing(s, forms, pool, lines));
 }
 
 fn start(forms: &mut [i32], pool: &mut [u16], lines: &mut [u16]) -> Outcome {
     let begun = session::start::start(forms, pool, lines);
     let session = begun.session;
     let start = begun.start;
-    Outcome {
-        session,
-        said: Said::Started(start),
-    }
+    print_start(start);
+    Outcome { session, answer: 0 }
 }
 
 fn call(
@@ -72,105 +95,59 @@ fn call(
 ) -> Outcome {
     match letter {
         b's' => start(forms, pool, lines),
-        b'l' => by_lending(s, forms, pool, lines, record),
-        b'o' => Outcome {
-            session: s,
-            said: Said::Found(order::entered(s, forms, pool, lines)),
-        },
-        b'r' => Outcome {
-            session: s,
-            said: Said::Stands(order::standing::standing(s, forms, pool, lines)),
-        },
-        _ => by_value(s, forms, pool, lines, record),
+        b'o' | b'r' => {
+            ask(letter, s, forms, pool, lines);
+            Outcome {
+                session: s,
+                answer: 0,
+            }
+        }
+        _ => fed(letter, s, forms, pool, lines, record),
     }
 }
 
-fn least(a: usize, b: usize) -> usize
+pub fn least(a: usize, b: usize) -> usize
     ensures { λ r. ⌜ r ≤ b ⌝ }
 {
     if a < b { a } else { b }
 }
 
 // The call on as many cells as are lent.
-fn call_on(
-    letter: u8,
-    s: Session,
-    lengths: Lengths,
-    forms: &mut [i32],
-    pool: &mut [u16],
-    lines: &mut [u16],
-    record: &[u8],
-) -> Outcome {
-    let f = least(lengths.forms, forms.len());
-    let p = least(lengths.pool, pool.len());
-    let l = least(lengths.lines, lines.len());
-    call(
-        letter,
-        s,
-        &mut forms[0..f],
-        &mut pool[0..p],
-        &mut lines[0..l],
-        record,
-    )
-}
-
-fn called(letter: u8, trial: Trial, record: &[u8]) -> Left {
+pub fn called(letter: u8, trial: Trial, record: &[u8]) -> Trial {
     let before = trial.session;
-    let lengths = trial.lengths;
+    let f = least(trial.lent_forms, FORM_ROOM);
+    let p = least(trial.lent_pool, POOL_ROOM);
+    let l = least(trial.lent_lines, LINE_ROOM);
     let mut forms = trial.forms;
     let mut pool = trial.pool;
     let mut lines = trial.lines;
-    let outcome = call_on(
+    let outcome = call(
         letter,
         before,
-        lengths,
-        &mut forms,
-        &mut pool,
-        &mut lines,
+        &mut forms[..f],
+        &mut pool[..p],
+        &mut lines[..l],
         record,
     );
     let session = outcome.session;
-    let said = outcome.said;
-    let left = Trial {
+    Trial {
         session,
         forms,
         pool,
         lines,
-        lengths,
-    };
-    Left { trial: left, said }
-}
-
-// A call that is no feed.
-pub fn ask(letter: u8, trial: Trial) -> Trial {
-    let asked = called(letter, trial, b"");
-    let said = asked.said;
-    print_said(said);
-    asked.trial
+        lent_forms: f,
+        lent_pool: p,
+        lent_lines: l,
+        answer: outcome.answer,
+    }
 }
 
 // One record by value and, on a copy, with the session lent. Says so where the two differ in anything.
-fn fed_both_ways(trial: Trial, record: &[u8]) -> Left {
-    let fed = called(b'f', trial, record);
+pub fn feed(letter: u8, trial: Trial, record: &[u8]) -> Trial {
+    let fed = called(letter, trial, record);
     let lent = called(b'l', trial, record);
-    let said = fed.said;
-    let left = fed.trial;
-    let other_said = lent.said;
-    let other_left = lent.trial;
-    if answers_differ(said, other_said) || trials_differ(left, other_left) {
-        print(b"differs when lent ");
+    if trials_differ(fed, lent) {
+        print(b"differs when lent\n");
     }
     fed
-}
-
-pub fn add(trial: Trial, record: &[u8]) -> Trial {
-    let fed = fed_both_ways(trial, record);
-    fed.trial
-}
-
-pub fn feed(trial: Trial, record: &[u8]) -> Trial {
-    let fed = fed_both_ways(trial, record);
-    let said = fed.said;
-    print_said(said);
-    fed.trial
 }

@@ -2,14 +2,13 @@
 // numbers stand at the record's end.
 use crate::trial::FORM_ROOM;
 use crate::trial::LINE_ROOM;
-use crate::trial::Lengths;
 use crate::trial::POOL_ROOM;
 use crate::trial::Trial;
+use fields::numbers::byte_at;
+use fields::numbers::i32_at;
+use fields::numbers::u16_at;
 use printing::print;
 use printing::print_numbers;
-use records::numbers::byte_at;
-use records::numbers::i32_at;
-use records::numbers::u16_at;
 use session::state::Mark;
 use session::state::Session;
 
@@ -40,12 +39,9 @@ fn place(record: &[u8], back: usize) -> usize {
 
 // tables: how many cells of the forms, the pool and the lines are lent.
 pub fn with_lengths(mut trial: Trial, record: &[u8]) -> Trial {
-    let lengths = Lengths {
-        forms: place(record, 6),
-        pool: place(record, 4),
-        lines: place(record, 2),
-    };
-    trial.lengths = lengths;
+    trial.lent_forms = place(record, 6);
+    trial.lent_pool = place(record, 4);
+    trial.lent_lines = place(record, 2);
     trial
 }
 
@@ -131,21 +127,27 @@ fn print_part(word: &[u8], cells: &[u16], from: usize, count: usize) {
     print_numbers(word, &cells[from..end]);
 }
 
+fn print_cells(letter: u8, trial: Trial, from: usize, count: usize) {
+    if letter == b'p' {
+        return print_part(b"pool", &trial.pool, from, count);
+    }
+    print_part(b"lines", &trial.lines, from, count)
+}
+
+fn print_counts(s: Session) {
+    print_numbers(b"counts", &[s.forms, s.lines, s.literals, s.open]);
+}
+
 // print: counts; pool or lines, a place and how many cells from there on; or used, the cells of both that are in use.
 pub fn print_named(trial: Trial, record: &[u8]) {
     let session = trial.session;
-    let pool = trial.pool;
-    let lines = trial.lines;
-    match byte_at(record, 0) {
-        b'c' => print_numbers(
-            b"counts",
-            &[session.forms, session.lines, session.literals, session.open],
-        ),
-        b'p' => print_part(b"pool", &pool, place(record, 4), place(record, 2)),
-        b'l' => print_part(b"lines", &lines, place(record, 4), place(record, 2)),
+    let letter = byte_at(record, 0);
+    match letter {
+        b'c' => print_counts(session),
+        b'p' | b'l' => print_cells(letter, trial, place(record, 4), place(record, 2)),
         b'u' => {
-            print_part(b"pool", &pool, 0, session.literals as usize);
-            print_part(b"lines", &lines, 0, 2 * (session.lines as usize));
+            print_cells(b'p', trial, 0, session.literals as usize);
+            print_cells(b'l', trial, 0, 2 * (session.lines as usize));
         }
         _ => print_bad(),
     }

@@ -1,56 +1,35 @@
-// Whether two trials differ in the session or in a cell.
+// Whether two trials differ in the answer, in the session or in a cell.
+ghost use mathlib.Core.Path.{_≡_};
+ghost use lib.ListN.{length};
 use crate::trial::Trial;
+use conditions::compare::is_scaled;
+use session::state::Mark;
 use session::state::Session;
 
-// The counts, and the mark at this place if there is one.
-fn sessions_differ(session: Session, other: Session, i: usize) -> bool {
-    if session.forms != other.forms || session.lines != other.lines {
-        return true;
-    }
-    if session.literals != other.literals || session.open != other.open {
-        return true;
-    }
-    if i < Session::MOST_LEVELS {
-        let mark = session.marks[i];
-        let other_mark = other.marks[i];
-        return mark.forms != other_mark.forms
-            || mark.lines != other_mark.lines
-            || mark.literals != other_mark.literals;
-    }
-    false
+fn marks_differ(mark: Mark, other: Mark) -> bool {
+    mark.forms != other.forms || mark.lines != other.lines || mark.literals != other.literals
 }
 
-fn forms_differ(forms: &[i32], other: &[i32], i: usize) -> bool {
-    if i < forms.len() && i < other.len() {
-        return forms[i] != other[i];
-    }
-    false
-}
-
-fn numbers_differ(cells: &[u16], other: &[u16], i: usize) -> bool {
-    if i < cells.len() && i < other.len() {
-        return cells[i] != other[i];
-    }
-    false
-}
-
-// The pool has more cells than the other tables, and more than there are marks.
-fn cells_differ(
-    session: Session,
-    forms: &[i32],
-    pool: &[u16],
-    lines: &[u16],
-    other: Session,
-    other_forms: &[i32],
-    other_pool: &[u16],
-    other_lines: &[u16],
-) -> bool {
+// The counts, and every mark.
+fn sessions_differ(session: Session, other: Session) -> bool {
+    let marks = session.marks;
+    let other_marks = other.marks;
     let mut i: usize = 0;
-    while i < pool.len() {
-        if sessions_differ(session, other, i) || forms_differ(forms, other_forms, i) {
+    while i < Session::MOST_LEVELS {
+        if marks_differ(marks[i], other_marks[i]) {
             return true;
         }
-        if numbers_differ(pool, other_pool, i) || numbers_differ(lines, other_lines, i) {
+        i += 1;
+    }
+    session.open != other.open || marks_differ(session.counts(), other.counts())
+}
+
+fn numbers_differ(cells: &[u16], other: &[u16]) -> bool
+    requires { ⌜ length (now cells) ≡ length (now other) ⌝ }
+{
+    let mut i: usize = 0;
+    while i < cells.len() {
+        if cells[i] != other[i] {
             return true;
         }
         i += 1;
@@ -58,23 +37,12 @@ fn cells_differ(
     false
 }
 
-pub fn trials_differ(left: Trial, other: Trial) -> bool {
-    let session = left.session;
-    let forms = left.forms;
-    let pool = left.pool;
-    let lines = left.lines;
+pub fn trials_differ(trial: Trial, other: Trial) -> bool {
+    let session = trial.session;
     let other_session = other.session;
-    let other_forms = other.forms;
-    let other_pool = other.pool;
-    let other_lines = other.lines;
-    cells_differ(
-        session,
-        &forms,
-        &pool,
-        &lines,
-        other_session,
-        &other_forms,
-        &other_pool,
-        &other_lines,
-    )
+    trial.answer != other.answer
+        || sessions_differ(session, other_session)
+        || !is_scaled(&trial.forms, 1, &other.forms)
+        || numbers_differ(&trial.pool, &other.pool)
+        || numbers_differ(&trial.lines, &other.lines)
 }

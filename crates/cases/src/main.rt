@@ -5,7 +5,6 @@ mod change;
 mod differ;
 mod reading;
 mod run;
-mod said;
 mod trial;
 
 use libc::STDIN_FILENO;

@@ -68,14 +68,14 @@ fn with_number(mut step: Step) -> Step {
     step.width = 0;
     step.is_negative = false;
     step.size = 0;
-    if width == 0 {
-        return step;
-    }
     if step.count == 0 {
-        step.times = bits;
+        if width != 0 {
+            step.times = bits;
+        }
         return step;
     }
     match width {
+        0 => step,
         1 => with_byte(step, bits),
         2 => with_two(step, bits),
         _ => {
@@ -108,38 +108,32 @@ fn with_other(mut step: Step, byte: u8) -> Step {
                 step.count = step.from + 57;
             }
         }
+        b';' => return begun(step.place),
         _ => return with_byte(step, byte as u32),
     }
     step
 }
 
-fn in_step(mut step: Step, byte: u8) -> Step {
-    if b'0' <= byte && byte <= b'9' {
-        return with_digit(step, byte - b'0');
+// A blank at its end makes a step whole.
+pub fn in_step(mut step: Step, byte: u8) -> Step {
+    match byte {
+        b'0'..=b'9' => with_digit(step, byte - b'0'),
+        b'-' => {
+            step.is_negative = true;
+            step
+        }
+        _ => with_other(with_number(step), byte),
     }
-    if byte == b'-' {
-        step.is_negative = true;
-        return step;
-    }
-    with_other(with_number(step), byte)
-}
-
-// The step at its end: what was read last is ended as by a blank.
-pub fn whole(step: Step) -> Step {
-    in_step(step, b' ')
 }
 
 fn in_label(step: Step, byte: u8) -> Step {
-    if byte == b'|' || byte == b'>' || byte == b'#' {
-        return begun(byte);
+    match byte {
+        b'|' | b'>' | b'#' => begun(byte),
+        _ => {
+            print(&[byte]);
+            step
+        }
     }
-    print(&[byte]);
-    step
-}
-
-// Whether a step ends before this byte.
-pub fn ends(byte: u8) -> bool {
-    byte == b';' || byte == b'\n'
 }
 
 // The step after one byte more.
@@ -147,14 +141,10 @@ pub fn read(step: Step, byte: u8) -> Step {
     if byte == b'\n' {
         return begun(b' ');
     }
-    if step.place == b' ' {
-        return in_label(step, byte);
+    let place = step.place;
+    match place {
+        b' ' => in_label(step, byte),
+        b'#' => step,
+        _ => in_step(step, byte),
     }
-    if step.place == b'#' {
-        return step;
-    }
-    if byte == b';' {
-        return begun(step.place);
-    }
-    in_step(step, byte)
 }

@@ -3,35 +3,27 @@
 // nothing is printed. tables, change and print: see `change.rt`.
 //
 // Before the first case there is a fresh session, and the tables hold only sevens.
-use crate::calls::add;
-use crate::calls::ask;
+use crate::calls::called;
 use crate::calls::feed;
+use crate::calls::least;
 use crate::change::bad;
 use crate::change::change;
 use crate::change::print_named;
 use crate::change::with_lengths;
 use crate::reading::Step;
 use crate::reading::begun;
-use crate::reading::ends;
+use crate::reading::in_step;
 use crate::reading::read;
-use crate::reading::whole;
 use crate::trial::Trial;
 use crate::trial::sevens;
-use records::numbers::byte_at;
-
-// What the steps of a case work on, and what was there before them.
-struct Trials {
-    present: Trial,
-    before: Trial,
-}
+use fields::numbers::byte_at;
 
 // One step; none, if no word was read.
 fn act(trial: Trial, letter: u8, record: &[u8]) -> Trial {
     match letter {
         0 => trial,
-        b's' | b'o' | b'r' => ask(letter, trial),
-        b'f' => feed(trial, record),
-        b'a' => add(trial, record),
+        b's' | b'o' | b'r' => called(letter, trial, record),
+        b'f' | b'a' => feed(letter, trial, record),
         b't' => with_lengths(trial, record),
         b'c' => change(trial, record),
         b'p' => {
@@ -42,65 +34,43 @@ fn act(trial: Trial, letter: u8, record: &[u8]) -> Trial {
     }
 }
 
-fn repeat(trial: Trial, letter: u8, record: &[u8], times: u32) -> Trial {
+// In these bytes a step's word stands at the front, and its record between the two places.
+fn repeat(trial: Trial, bytes: &[u8], from: usize, to: usize, times: u32) -> Trial {
+    let end = least(to, bytes.len());
+    let start = least(from, end);
     let mut present = trial;
     let mut i: u32 = 0;
     while i < times {
-        let next = act(present, letter, record);
+        let next = act(present, byte_at(bytes, 0), &bytes[start..end]);
         present = next;
         i += 1;
     }
     present
 }
 
-// The step in these bytes: the word stands at the front, and the record between the two places.
-fn run_step(trial: Trial, bytes: &[u8], from: usize, end: usize, times: u32) -> Trial {
-    if end < from {
-        return trial;
-    }
-    if bytes.len() < end {
-        return trial;
-    }
-    repeat(trial, byte_at(bytes, 0), &bytes[from..end], times)
-}
-
-// The trials after a step, and at the line's end before the next case.
-fn run_to(trials: Trials, step: Step, byte: u8) -> Trials {
-    let present = trials.present;
-    let before = trials.before;
-    let whole = whole(step);
+fn run_step(trial: Trial, step: Step) -> Trial {
+    let whole = in_step(step, b' ');
     let bytes = whole.bytes;
-    let after = run_step(present, &bytes, whole.from, whole.count, whole.times);
-    if byte == b';' {
-        return Trials {
-            present: after,
-            before,
-        };
-    }
-    if step.place == b'>' {
-        return Trials {
-            present: after,
-            before: after,
-        };
-    }
-    Trials {
-        present: before,
-        before,
-    }
+    repeat(trial, &bytes, whole.from, whole.count, whole.times)
 }
 
+// Holds what the steps of a case work on, and what the next case begins with.
 pub fn run(text: &[u8]) {
-    let mut trials = Trials {
-        present: sevens(),
-        before: sevens(),
-    };
+    let mut present = sevens();
+    let mut kept = sevens();
     let mut step = begun(b' ');
     let mut i: usize = 0;
     while i < text.len() {
         let byte = text[i];
-        if ends(byte) {
-            let next = run_to(trials, step, byte);
-            trials = next;
+        if byte == b';' || byte == b'\n' {
+            let after = run_step(present, step);
+            present = after;
+        }
+        if byte == b'\n' {
+            if step.place == b'>' {
+                kept = present;
+            }
+            present = kept;
         }
         let longer = read(step, byte);
         step = longer;

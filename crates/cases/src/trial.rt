@@ -8,19 +8,17 @@ pub const POOL_ROOM: usize = Session::POOL + 4;
 
 pub const LINE_ROOM: usize = Session::LINE_TABLE + 4;
 
-// How many cells of each table a call is lent: the first ones.
-pub struct Lengths {
-    pub forms: usize,
-    pub pool: usize,
-    pub lines: usize,
-}
-
 pub struct Trial {
     pub session: Session,
     pub forms: [i32; FORM_ROOM],
     pub pool: [u16; POOL_ROOM],
     pub lines: [u16; LINE_ROOM],
-    pub lengths: Lengths,
+    // How many cells of each table a call is lent: the first ones.
+    pub lent_forms: usize,
+    pub lent_pool: usize,
+    pub lent_lines: usize,
+    // The number of what the last feed answered.
+    pub answer: u32,
 }
 
 // The fresh session, over tables as long as the limits name that hold only sevens.
@@ -30,10 +28,9 @@ pub fn sevens() -> Trial {
         forms: [7i32; FORM_ROOM],
         pool: [7u16; POOL_ROOM],
         lines: [7u16; LINE_ROOM],
-        lengths: Lengths {
-            forms: Session::FORM_TABLE,
-            pool: Session::POOL,
-            lines: Session::LINE_TABLE,
-        },
+        lent_forms: Session::FORM_TABLE,
+        lent_pool: Session::POOL,
+        lent_lines: Session::LINE_TABLE,
+        answer: 0,
     }
 }

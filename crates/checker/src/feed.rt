@@ -3,71 +3,46 @@ ghost use mathlib.Core.Path.{_≡_};
 ghost use Rattle.rows.specs.Limits.{unknowns};
 ghost use Rattle.session.specs.Cells.{asGiven, asLent, asLeft};
 ghost use Rattle.laid.specs.Held.{Held};
-ghost use Rattle.records.specs.Marks.{recordMarkOf, OfMark};
 ghost use Rattle.checker.specs.Feed.{resultOf, stepped, feed};
 use crate::keep::Fed;
-use records::marks::RecordMark;
 use records::shape::Shape;
 use session::answers::Verdict;
 use session::state::Session;
 use settle::Top;
 
-// Bytes that bear a mark, on tables that are cut to their named cells and in order: what they propose, settled.
-fn marked(
-    s: Session,
-    forms: &mut [i32],
-    pool: &mut [u16],
-    lines: &mut [u16],
-    bytes: &[u8],
-    m: RecordMark,
-) -> Fed
-    requires { ⌜ Held unknowns s (asGiven forms pool lines) × OfMark (now bytes) (recordMarkOf m) ⌝ }
-    ensures { λ r. ⌜ resultOf r (asLeft forms pool lines) ≡ stepped unknowns s (asLent forms pool lines) (now (bytes .entry)) ⌝ }
-{
-    let mut cells = [0i32; Session::MOST_TERMS];
-    let mut first = [0u16; Session::LONGEST_LINE];
-    let mut second = [0u16; Session::LONGEST_LINE];
-    let p = propose::propose(
-        s.counts(),
-        forms,
-        pool,
-        lines,
-        bytes,
-        m,
-        &mut cells,
-        &mut first,
-        &mut second,
-    );
-    let at = settle::last_place(s.open);
-    let last = s.marks[at];
-    let top = Top {
-        counts: s.counts(),
-        open: s.open,
-        last,
-    };
-    let change = settle::settle(
-        top,
-        forms,
-        pool,
-        lines,
-        p,
-        &cells[0..Session::FORM_CELLS],
-        &first,
-        &second,
-    );
-    let answer = settle::answer_of(change);
-    let session = settle::apply_to(s, change);
-    Fed { session, answer }
-}
-
-// Any bytes, on such tables.
+// Any bytes, on tables that are cut to their named cells and in order.
 fn step(s: Session, forms: &mut [i32], pool: &mut [u16], lines: &mut [u16], bytes: &[u8]) -> Fed
     requires { ⌜ Held unknowns s (asGiven forms pool lines) ⌝ }
     ensures { λ r. ⌜ resultOf r (asLeft forms pool lines) ≡ stepped unknowns s (asLent forms pool lines) (now (bytes .entry)) ⌝ }
 {
     match records::shape::read_shape(bytes) {
         Shape::Wrong(why) => crate::keep::refuse(s, why),
-        Shape::Right(m) => marked(s, forms, pool, lines, bytes, m),
+        Shape::Right(m) => {
+            let mut cells = [0i32; Session::MOST_TERMS];
+            let mut first = [0u16; Session::LONGEST_LINE];
+            let mut second = [0u16; Session::LONGEST_LINE];
+            let at = settle::last_place(s.open);
+            let last = s.marks[at];
+            let top = Top {
+                counts: s.counts(),
+                open: s.open,
+                last,
+            };
+            let change = crate::change::change_of(
+                top,
+                forms,
+                pool,
+                lines,
+                bytes,
+                m,
+                &mut cells,
+                &mut first,
+                &mut second,
+            );
+            let answer = settle::answer_of(change);
+            let session = settle::apply_to(s, change);
+            Fed { session, answer }
+        }
     }
 }
 

@@ -19,7 +19,7 @@ pub fn is_scaled(a: &[i32], m: i32, b: &[i32]) -> bool
     while i < a.len() {
         let x = a[i];
         let y = b[i];
-        if !crate::exact::is_affine(x, 0, m, y) {
+        if !contents::exact::is_affine(x, 0, m, y) {
             return false;
         }
         i += 1;
@@ -37,7 +37,7 @@ fn is_image(a: &[i32], n: i32, m: i32, b: &[i32]) -> bool
     }
     let x = a[0];
     let y = b[0];
-    if !crate::exact::is_affine(x, n, m, y) {
+    if !contents::exact::is_affine(x, n, m, y) {
         return false;
     }
     is_scaled(&a[1..], m, &b[1..])
@@ -49,10 +49,10 @@ pub fn matches(table: &[i32], a: u16, n: i32, m: i32, b: u16) -> bool
     ensures { λ r. ⌜ r ≡ sameRow (rowAt unknowns (now (table .entry)) a) (shifted n (scaled m (rowAt unknowns (now (table .entry)) b))) ⌝ }
 {
     is_image(
-        crate::cells::row(table, a),
+        contents::cells::row(table, a),
         n,
         m,
-        crate::cells::row(table, b),
+        contents::cells::row(table, b),
     )
 }
 

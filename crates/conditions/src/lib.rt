@@ -1,7 +1,4 @@
-// The tests of forms in a lent table: cutting a form out of it, legal content, comparisons of rows and tightening, in exact arithmetic.
+// The conditions of the rules on two rows in a lent table: comparisons, and tightening.
 // Nothing here writes to a table, and nothing knows of lines, levels or records.
-pub mod cells;
 pub mod compare;
-pub mod content;
-pub mod exact;
 pub mod tighten;

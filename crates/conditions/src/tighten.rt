@@ -11,7 +11,7 @@ ghost use Rattle.rows.specs.Conditions.{tightens};
 fn rounds_up(a: i32, c: i32, b: i32) -> bool
     ensures { λ r. ⌜ r ≡ ltZ (c *ℤ (b -ℤ pos 1)) a && leZ a (c *ℤ b) ⌝ }
 {
-    let p = crate::exact::plus_times(0, c, b);
+    let p = contents::exact::plus_times(0, c, b);
     let x = a as i64;
     if p < x {
         return false;
@@ -24,8 +24,8 @@ pub fn tightens(table: &[i32], a: u16, b: u16, c: i32) -> bool
     requires { ⌜ Inside unknowns (now table) a × Inside unknowns (now table) b ⌝ }
     ensures { λ r. ⌜ r ≡ tightens c (rowAt unknowns (now (table .entry)) a) (rowAt unknowns (now (table .entry)) b) ⌝ }
 {
-    let x = crate::cells::row(table, a);
-    let y = crate::cells::row(table, b);
+    let x = contents::cells::row(table, a);
+    let y = contents::cells::row(table, b);
     if !crate::compare::is_scaled(&x[1..], c, &y[1..]) {
         return false;
     }

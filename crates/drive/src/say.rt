@@ -1,6 +1,6 @@
 // Prints: what a run came to, the session, and a sum over each table.
-ghost use Rattle.drive.specs.Lends.{Lends};
 use crate::tables::State;
+use crate::tables::least;
 use libc::STDERR_FILENO;
 use printing::print;
 use printing::print_number;
@@ -70,20 +70,23 @@ fn lifted(cell: i32) -> u64 {
     (cell as i64 + 4_294_967_296) as u64
 }
 
-fn sum_of_forms(cells: &[i32]) -> u64 {
+// Over the first cells, as many as are lent.
+fn sum_of_forms(cells: &[i32], lent: usize) -> u64 {
+    let end = least(lent, cells.len());
     let mut sum: u64 = 0;
     let mut i: usize = 0;
-    while i < cells.len() {
+    while i < end {
         sum = summed(sum, lifted(cells[i]));
         i += 1;
     }
     sum
 }
 
-fn sum_of_numbers(cells: &[u16]) -> u64 {
+fn sum_of_numbers(cells: &[u16], lent: usize) -> u64 {
+    let end = least(lent, cells.len());
     let mut sum: u64 = 0;
     let mut i: usize = 0;
-    while i < cells.len() {
+    while i < end {
         sum = summed(sum, wide(cells[i]));
         i += 1;
     }
@@ -91,17 +94,12 @@ fn sum_of_numbers(cells: &[u16]) -> u64 {
 }
 
 // The two lines after each answer.
-pub fn print_state(s: State, forms: &[i32], pool: &[u16], lines: &[u16])
-    requires { ⌜ Lends s (now forms) (now pool) (now lines) ⌝ }
-{
+pub fn print_state(s: State) {
     let session = s.session;
-    let f = s.forms;
-    let p = s.pool;
-    let l = s.lines;
     print_session(session);
     print(b"cells");
-    print_number(sum_of_forms(&forms[0..f]));
-    print_number(sum_of_numbers(&pool[0..p]));
-    print_number(sum_of_numbers(&lines[0..l]));
+    print_number(sum_of_forms(&s.forms, s.lent_forms));
+    print_number(sum_of_numbers(&s.pool, s.lent_pool));
+    print_number(sum_of_numbers(&s.lines, s.lent_lines));
     print(b"\n");
 }

@@ -1,73 +1,57 @@
-// Obeys the commands of a text one after the other, T over the whole room and any other on what is lent of it.
+// Obeys the commands of a text one after the other.
 ghost use Prim.Native.Nat.{_≤_};
 ghost use lib.ListN.{length};
-ghost use Rattle.drive.specs.Lends.{Lends};
-use crate::commands::obey;
-use crate::say::print_state;
+use crate::calls::call;
+use crate::commands::lend;
+use crate::commands::set_form;
+use crate::commands::set_line;
+use crate::commands::set_literal;
+use crate::commands::set_session;
+use crate::commands::size;
 use crate::tables::State;
-use crate::tables::Step;
-use crate::tables::lend;
+use crate::tables::bad;
+use crate::tables::least;
+use fields::numbers::byte_at;
 
-// One command.
-fn step(s: State, forms: &mut [i32], pool: &mut [u16], lines: &mut [u16], text: &[u8]) -> Step
-    requires { ⌜ Lends s (now forms) (now pool) (now lines) ⌝ }
-    ensures { λ r. ⌜ (r .used ≤ length (now (text .entry))) × Lends (r .state) (now (forms .exit)) (now (pool .exit)) (now (lines .exit)) ⌝ }
-{
-    if records::numbers::byte_at(text, 0) == b'T' {
-        return lend(s, forms, pool, lines, text);
-    }
-    let session = s.session;
-    let f = s.forms;
-    let p = s.pool;
-    let l = s.lines;
-    let obeyed = obey(
-        session,
-        &mut forms[0..f],
-        &mut pool[0..p],
-        &mut lines[0..l],
-        text,
-    );
-    let after = obeyed.session;
-    let next = State {
-        session: after,
-        forms: f,
-        pool: p,
-        lines: l,
-    };
-    if obeyed.is_call {
-        print_state(next, forms, pool, lines);
-    }
-    Step {
-        state: next,
-        used: obeyed.used,
-        is_bad: obeyed.is_bad,
+// One command. The bytes of a record or stream come after their length.
+fn step(s: State, text: &[u8], size: usize) -> State {
+    let letter = byte_at(text, 0);
+    match letter {
+        b'T' => lend(s, text),
+        b'S' => set_session(s, text),
+        b'F' => set_form(s, text),
+        b'P' => set_literal(s, text),
+        b'L' => set_line(s, text),
+        b'I' | b'Q' | b'B' | b'N' => {
+            let end = least(size, text.len());
+            let start = least(3, end);
+            call(letter, s, &text[start..end])
+        }
+        _ => bad(s),
     }
 }
 
+// What the commands left, and how many bytes they took.
+pub struct Left {
+    pub state: State,
+    pub used: usize,
+}
+
 // Every whole command of the text, up to a bad one.
-pub fn steps(s: State, forms: &mut [i32], pool: &mut [u16], lines: &mut [u16], text: &[u8]) -> Step
-    requires { ⌜ Lends s (now forms) (now pool) (now lines) ⌝ }
-    ensures { λ r. ⌜ (r .used ≤ length (now (text .entry))) × Lends (r .state) (now (forms .exit)) (now (pool .exit)) (now (lines .exit)) ⌝ }
+pub fn steps(s: State, text: &[u8]) -> Left
+    ensures { λ r. ⌜ r .used ≤ length (now (text .entry)) ⌝ }
 {
-    let mut present = s;
-    let mut at: usize = 0;
-    while at < text.len() {
-        let next = step(present, forms, pool, lines, &text[at..]);
-        let after = next.state;
-        let used = next.used;
-        if used == 0 {
-            return Step {
-                state: after,
-                used: at,
-                is_bad: next.is_bad,
-            };
+    let mut state = s;
+    let mut used: usize = 0;
+    while used < text.len() {
+        let rest = &text[used..];
+        let size = size(rest);
+        if rest.len() < size || state.is_bad {
+            return Left { state, used };
         }
-        present = after;
-        at += used;
+        let next = step(state, rest, size);
+        state = next;
+        used += size;
     }
-    Step {
-        state: present,
-        used: at,
-        is_bad: false,
-    }
+    Left { state, used }
 }

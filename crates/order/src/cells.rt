@@ -20,7 +20,7 @@ pub fn forms_hold(forms: &[i32], count: usize) -> bool
     while f < count {
         let at = Session::FORM_CELLS * f;
         let end = at + Session::FORM_CELLS;
-        if !conditions::content::legal(&forms[at..end]) {
+        if !contents::content::legal(&forms[at..end]) {
             return false;
         }
         f += 1;

@@ -1,6 +1,6 @@
 // The clauses of the order on marks, level by level; between two of them the lines are walked through.
 ghost use mathlib.Core.Path.{_≡_};
-ghost use Prim.Native.Nat.{_*_, _≤_};
+ghost use Prim.Native.Nat.{_≤_};
 ghost use lib.ListN.{drop};
 ghost use Rattle.ints.specs.Tests.{all};
 ghost use Rattle.ledger.specs.Limits.{mostLevels};

@@ -11,11 +11,11 @@ ghost use Rattle.ledger.specs.Bytes.{u16At, i32At};
 ghost use Rattle.session.specs.Answers.{findingOf};
 ghost use Rattle.proposals.specs.Proposing.{Scratch};
 ghost use Rattle.rules.specs.Read.{FormsHeld, formsIn, Judged, ProposesRule};
+use fields::numbers::i32_at;
+use fields::numbers::u16_at;
 use proposals::Proposal;
 use proposals::derived::three;
 use proposals::derived::two;
-use records::numbers::i32_at;
-use records::numbers::u16_at;
 use session::answers::Refusal;
 use session::answers::Verdict;
 
@@ -30,10 +30,10 @@ fn both_are(count: u16, forms: &[i32], j: i32, a: u16, k: i32, b: u16) -> Verdic
     if count <= b {
         return Verdict::Fail(Refusal::NotInForce);
     }
-    if conditions::cells::kind(forms, a) != j {
+    if contents::cells::kind(forms, a) != j {
         return Verdict::Fail(Refusal::NotAllowed);
     }
-    if conditions::cells::kind(forms, b) != k {
+    if contents::cells::kind(forms, b) != k {
         return Verdict::Fail(Refusal::NotAllowed);
     }
     Verdict::Pass
@@ -82,13 +82,13 @@ fn judge_trichotomy(count: u16, forms: &[i32], z: u16, u: u16, v: u16) -> Verdic
     if count <= v {
         return Verdict::Fail(Refusal::NotInForce);
     }
-    if conditions::cells::kind(forms, z) != rows::IS_ZERO {
+    if contents::cells::kind(forms, z) != rows::IS_ZERO {
         return Verdict::Fail(Refusal::NotAllowed);
     }
-    if conditions::cells::kind(forms, u) != rows::AT_MOST {
+    if contents::cells::kind(forms, u) != rows::AT_MOST {
         return Verdict::Fail(Refusal::NotAllowed);
     }
-    if conditions::cells::kind(forms, v) != rows::AT_MOST {
+    if contents::cells::kind(forms, v) != rows::AT_MOST {
         return Verdict::Fail(Refusal::NotAllowed);
     }
     if !conditions::compare::is_one_more(forms, u, z) {
@@ -154,7 +154,7 @@ pub fn tightening(
     if let Verdict::Fail(why) = both {
         return Proposal::Refused(why);
     }
-    if !conditions::content::legal_factor(c) {
+    if !contents::content::legal_factor(c) {
         return Proposal::Refused(Refusal::NotAllowed);
     }
     let v = holds(conditions::tighten::tightens(forms, a, b, c));

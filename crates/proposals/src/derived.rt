@@ -2,7 +2,7 @@
 ghost use mathlib.Core.Path.{_≡_};
 ghost use mathlib.Core.List.{List, _∷_, [], map};
 ghost use Prim.Native.Nat.{ℕ, _+_, _*_, _≤_};
-ghost use lib.ListN.{length, take};
+ghost use lib.ListN.{length};
 ghost use Rattle.ledger.specs.Limits.{longestLine};
 ghost use Rattle.ledger.specs.Literals.{unnegated, negated, lineOf};
 ghost use Rattle.ledger.specs.Checks.{derivedLine};

@@ -12,7 +12,7 @@ use Rattle.ledger.specs.Record.{ofRule, Layout, ruleLayout}
 use Rattle.ledger.specs.Apply.{Proposal}
 use Rattle.records.specs.declared.marks.RuleMark.{RuleMark}
 use Rattle.records.specs.Marks.{ruleMarkOf, OfMark}
-use Rattle.records.specs.Fields.{Listed}
+use Rattle.fields.specs.Fields.{Listed}
 use Rattle.records.proofs.WholeLaws.{fixed-whole, counted-whole}
 use Rattle.proposals.specs.declared.Proposal.{Proposal as Code}
 use Rattle.proposals.specs.Proposing.{Proposes}

@@ -1,6 +1,5 @@
 // What a record proposes: by its mark, on counts and tables that are only read. What is written is only what the caller lends for
 // the form's cells and the two lists of literals.
-ghost use mathlib.Core.Path.{_≡_};
 ghost use lib.ListN.{take};
 ghost use Rattle.rows.specs.Limits.{unknowns};
 ghost use Rattle.ledger.specs.Record.{make, ofRule};
@@ -11,10 +10,10 @@ ghost use Rattle.records.specs.Marks.{ruleMarkOf, recordMarkOf, OfMark};
 ghost use Rattle.proposals.specs.Proposing.{Proposes};
 ghost use Rattle.rules.specs.Read.{formsIn, linesIn};
 ghost use Rattle.propose.specs.Ready.{Ready};
+use fields::numbers::u16_at;
 use proposals::Proposal;
 use records::marks::RecordMark;
 use records::marks::RuleMark;
-use records::numbers::u16_at;
 use session::state::Mark;
 use session::state::Session;
 

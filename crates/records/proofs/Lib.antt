@@ -1,5 +1,3 @@
 pub mod MarkLaws
-pub mod SignedLaws
-pub mod FilledLaws
 pub mod WholeLaws
 pub mod FrontLaws

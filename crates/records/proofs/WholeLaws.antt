@@ -11,7 +11,7 @@ use Rattle.ledger.specs.Apply.{pass, finding}
 use Rattle.ledger.specs.Bytes.{bears, markOf, bytesFor, countFrom, shapeOf, shape}
 use Rattle.ledger.proofs.Findings.{pass→passed}
 use Rattle.ledger.proofs.LayoutLaws.{count-least, count-most, list-behind}
-use Rattle.records.specs.Fields.{Listed}
+use Rattle.fields.specs.Fields.{Listed}
 
 module _ (b : List ℕ) (m : RecordMark) (e : markOf b ≡ bears m) (p : finding (shape b) ≡ pass) where
   of-mark : Passed (shapeOf b (bears m))

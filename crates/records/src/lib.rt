@@ -1,5 +1,3 @@
-// Records as bytes: the table of marks, the shape of a record and its fields.
-pub mod fields;
+// Records as bytes: the table of marks, and the shape of a record.
 pub mod marks;
-pub mod numbers;
 pub mod shape;

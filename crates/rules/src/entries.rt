@@ -12,7 +12,7 @@ ghost use Rattle.ledger.specs.Apply.{finding};
 ghost use Rattle.ledger.specs.Bytes.{formFrom, literalsBehind};
 ghost use Rattle.session.specs.Answers.{findingOf};
 ghost use Rattle.session.specs.Limits.{formCells};
-ghost use Rattle.records.specs.Fields.{Listed};
+ghost use Rattle.fields.specs.Fields.{Listed};
 ghost use Rattle.rules.specs.Read.{ProposesForm, ProposesPremise};
 use proposals::NewLine;
 use proposals::Proposal;
@@ -24,8 +24,8 @@ pub fn form(bytes: &[u8], cells: &mut [i32]) -> Proposal
     requires { ⌜ (length (now bytes) ≡ ruleLayout fm .bytes) × (length (now cells) ≡ formCells unknowns) ⌝ }
     ensures { λ r. ⌜ ProposesForm unknowns (FM (formFrom (now (bytes .entry)))) r (now (cells .exit)) ⌝ }
 {
-    records::fields::read_form(cells, bytes);
-    if !conditions::content::legal(cells) {
+    fields::read_form(cells, bytes);
+    if !contents::content::legal(cells) {
         return Proposal::Refused(Refusal::IllegalContent);
     }
     Proposal::Form
@@ -48,7 +48,7 @@ pub fn premise(count: u16, bytes: &[u8], second: &mut [u16]) -> Proposal
     requires { ⌜ Listed behindLetters 2 0 longestLine (now bytes) × (length (now second) ≡ longestLine) ⌝ }
     ensures { λ r. ⌜ ProposesPremise unknowns count (PM (literalsBehind behindLetters (now (bytes .entry)))) r (now (second .exit)) ⌝ }
 {
-    let n = records::fields::read_literals(second, bytes, BEHIND_LETTERS);
+    let n = fields::read_literals(second, bytes, BEHIND_LETTERS);
     let v = judge_premise(count, &second[0..n]);
     if let Verdict::Fail(why) = v {
         return Proposal::Refused(why);

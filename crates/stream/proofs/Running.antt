@@ -1,8 +1,9 @@
 -- A run over held tables: record by record, as long as records are accepted, what is still to come decides the whole; and beside an excess the
 -- run is the same.
-use mathlib.Core.Path.{_≡_, refl, sym, ap, _∙_}
+use mathlib.Core.Path.{_≡_, refl, sym, ap, subst, _∙_}
 use mathlib.Core.List.{List, [], _∷_}
 use Prim.Native.Nat.{ℕ, zero, suc, _+_, _-_, _≤_, _<_}
+use native.Mathlib.Nat.{sub-zero}
 use native.Mathlib.Omega.{arith}
 use lib.ListN.{length, take, drop, length-drop, drop-of-length-le}
 use lib.Seq.{length-take-le, take-all, take-length, drop-drop}
@@ -10,19 +11,24 @@ use Rattle.ints.proofs.Bools.{never}
 use Rattle.ledger.specs.Limits.{mostLevels}
 use Rattle.ledger.specs.Ledger.{Ledger}
 use Rattle.ledger.specs.Bytes.{applyBytes}
-use Rattle.ledger.specs.Record.{Made, Answer, accepted, refused}
+use Rattle.ledger.specs.Record.{RecordMark, Made, Answer, accepted, refused}
 use Rattle.ledger.specs.Apply.{pass, fail}
 use Rattle.ledger.specs.Run.{front, split, recordsOf}
 use Rattle.ledger.proofs.RunLaws.{front-positive, records-step}
+use Rattle.session.specs.declared.state.Mark.{Mark}
 use Rattle.session.specs.declared.state.Session.{Session}
-use Rattle.session.specs.Cells.{Tables, named, excess, withExcess, ledgerOf}
+use Rattle.session.specs.Cells.{Tables, named, excess, withExcess, countsOf, ledgerOf}
+use Rattle.session.specs.declared.answers.Refusal.{Refusal}
+use Rattle.session.specs.Answers.{numberOf}
 use Rattle.session.specs.Calls.{entry}
 use Rattle.laid.specs.Held.{Held}
-use Rattle.records.specs.Marks.{Misshapen}
+use Rattle.records.specs.Marks.{Whole, Misshapen}
 use Rattle.settle.specs.declared.Change.{Change}
-use Rattle.settle.specs.Settling.{Result, unchanged, settled, resultBy}
-use Rattle.checker.specs.Feed.{stepped, feed}
-use Rattle.stream.specs.Run.{Totals, totals, eachBy, run}
+use Rattle.settle.specs.declared.Change.the-variants.{Refused}
+use Rattle.settle.specs.declared.Top.{Top}
+use Rattle.settle.specs.Settling.{Result, unchanged, settled, after, answerBy, InPlace, resultBy, topOf}
+use Rattle.checker.specs.Feed.{stepped, feed, Changes}
+use Rattle.stream.specs.Run.{Totals, totals, eachBy, run, sessionWith, FrontStep}
 use Rattle.settle.proofs.OnLedger.{changed}
 use Rattle.checker.proofs.Beside.{restored, feed-beside, held-again}
 use Rattle.checker.proofs.Feeding.{entry-held}
@@ -88,9 +94,21 @@ each-beside n k c s t x (b ∷ bs) h =
     go (accepted m) rest = rest
     go (refused j) rest = refl
 
--- what a change that is known does
-pub told : (s : Session) (t : Tables) {r : Result} {x y : Change} → x ≡ y → resultBy s x t ≡ r → resultBy s y t ≡ r
-told s t e d = sym (ap (λ (x : Change). resultBy s x t) e) ∙ d
+-- ---- the front of what is left
+
+module _ {n : ℕ} {top : Top} {t : Tables} {b : List ℕ} where
+  pub wrong-front : {why : Refusal} → Misshapen b (numberOf why) → FrontStep n top t b (Refused why) (length b) t
+  wrong-front {why} w =
+      record {
+        within = omega arith;
+        taken = take-length b ∙ sym (take-all (front b) b (w .all));
+        changes = λ s e h. record { result = rw (take-length b) (sym (stepped-wrong n s t b (w .failed))); place = tt };
+      }
+
+  pub whole-front : {m : RecordMark} {c : Change} {size : ℕ} {t' : Tables} → Whole b m size → Changes n top t (take (size - 0) b) c t'
+      → FrontStep n top t b c size t'
+  whole-front {m} {c} {size} {t'} w f =
+      record { within = w .within; taken = w .taken; changes = subst (λ (k : ℕ). Changes n top t (take k b) c t') (sub-zero size) f }
 
 -- ---- the loop
 
@@ -101,8 +119,15 @@ pub record Underway (n : ℕ) (s : Session) (t : Tables) (b : List ℕ) (records
   pub within : bytes ≤ length b
   pub same : eachBy (stepped n) records bytes s' t' (recordsOf (drop bytes b)) ≡ eachBy (stepped n) 0 0 s t (recordsOf b)
 
-pub sets-out : (n : ℕ) (s : Session) (t : Tables) (b : List ℕ) → Held n s t → Underway n s t b 0 0 s t
-sets-out n s t b h = record { held = h; few = omega arith; within = omega arith; same = refl }
+-- it sets out from the parts of a session
+module _ (n : ℕ) (s : Session) (t : Tables) {m : Mark} (e : m ≡ countsOf s) where
+  pub sets-out : (b : List ℕ) → Held n s t
+      → Underway n (sessionWith m (s .«open») (s .marks)) t b 0 0 (sessionWith m (s .«open») (s .marks)) t
+  sets-out b h = record { held = rw e h; few = omega arith; within = omega arith; same = refl }
+
+  pub set-out : {x : Totals} (bs : List (List ℕ)) → x ≡ eachBy (stepped n) 0 0 (sessionWith m (s .«open») (s .marks)) t bs
+      → x ≡ eachBy (stepped n) 0 0 s t bs
+  set-out bs f = rw e at f
 
 drop-taken : (j : ℕ) (xs : List ℕ) → drop (length (take j xs)) xs ≡ drop j xs
 drop-taken zero xs = refl
@@ -133,50 +158,48 @@ module _ {n : ℕ} {s : Session} {t : Tables} {b : List ℕ} {k c : ℕ} {s' : S
   unfolding eachBy split
   arrives h = ap (λ (d : List ℕ). eachBy (stepped n) k c s' t' (recordsOf d)) (sym (drop-of-length-le b h)) ∙ u .same
 
-  -- the stream stops at a record of a wrong shape
-  pub stops-wrong : c < length b → {j : ℕ} → Misshapen (drop c b) j → totals k c j s' t' ≡ eachBy (stepped n) 0 0 s t (recordsOf b)
-  stops-wrong more {j} w =
-      let d = drop c b in
-      let all : take (length d) d ≡ take (front d) d = take-length d ∙ sym (take-all (front d) d (w .all)) in
-      let first = records-left d (length d) (rw (length-drop c b) (omega arith)) (omega arith) all .0 in
-      sym (each-stops (stepped n) k c s' t' (take (length d) d) (recordsOf (drop (length d) d)) (rw (take-length d) (stepped-wrong n s' t' d (w .failed))))
-      ∙ (rw first at (u .same))
+-- what a turn of the loop does, by the change that the front record of what is left makes
+pub record Turn (n : ℕ) (s : Session) (t : Tables) (b : List ℕ) (k c : ℕ) (s' : Session) (x : Change) (size : ℕ) (t'' : Tables) : Type 0 where
+  pub forward : 0 < size
+  pub within : c + size ≤ length b
+  pub place : InPlace x
+  pub held : Held n (after s' x) t''
+  pub stops : {why : Refusal} → x ≡ Refused why → totals k c (numberOf why) s' t'' ≡ eachBy (stepped n) 0 0 s t (recordsOf b)
+  pub goes : {y : Change} {m : Made} {s'' : Session} → x ≡ y → resultBy s' y t'' ≡ changed m s'' t'' → Underway n s t b (k + 1) (c + size) s'' t''
 
-  module _ (more : c < length b) (size : ℕ) (fits : size ≤ length (drop c b)) (same : take size (drop c b) ≡ take (front (drop c b)) (drop c b)) where
-    some : 0 < length (drop c b)
-    some = rw (length-drop c b) (omega arith)
-
-    pub forward : 0 < size
-    forward = records-left (drop c b) size some fits same .1
-
-    pub stops : {j : ℕ} → stepped n s' t' (take size (drop c b)) ≡ unchanged j s' t'
-        → totals k c j s' t' ≡ eachBy (stepped n) 0 0 s t (recordsOf b)
-    stops e =
-        sym (each-stops (stepped n) k c s' t' (take size (drop c b)) (recordsOf (drop size (drop c b))) e)
-        ∙ (rw (records-left (drop c b) size some fits same .0) at (u .same))
-
-    -- what a refused record leaves, and that the run stops there
-    pub stops-refused : {j : ℕ} {t'' : Tables} → unchanged j s' t'' ≡ stepped n s' t' (take size (drop c b))
-        → (t'' ≡ t') × (totals k c j s' t'' ≡ eachBy (stepped n) 0 0 s t (recordsOf b))
-    stops-refused {j} {t''} e =
-        let left = step-refused n s' t' (take size (drop c b)) (sym (ap (λ (x : Result). x .answer) e)) in
-        let same = ap (λ (x : Result). x .tables) (e ∙ left) in
-        (same, rw same (stops left))
-
-    pub gets-on : {m : Made} {s'' : Session} {t'' : Tables} → stepped n s' t' (take size (drop c b)) ≡ changed m s'' t''
-        → Underway n s t b (k + 1) (c + size) s'' t''
-    gets-on {m} {s''} {t''} e =
-        let d = drop c b in
-        let (first, positive) = records-left d size some fits same in
-        let long : length (take size d) ≡ size = length-take-le size d fits in
-        let on : eachBy (stepped n) (k + 1) (c + size) s'' t'' (recordsOf (drop size d)) ≡ eachBy (stepped n) 0 0 s t (recordsOf b) =
-        rw (long) at (sym (each-on (stepped n) k c s' t' (take size d) (recordsOf (drop size d)) e) ∙ (rw first at (u .same))) in
-        record {
-          held = rw e at (held-again (u .held) (take size d));
-          few = omega (arith, u .few);
-          within = omega (arith, length-drop c b, u .within);
-          same = rw (drop-drop size c b) at on;
-        }
+pub turns : {n : ℕ} {s : Session} {t : Tables} {b : List ℕ} {k c : ℕ} {s' : Session} {t' : Tables} {top : Top} {x : Change} {size : ℕ} {t'' : Tables}
+    → Underway n s t b k c s' t' → c < length b → FrontStep n top t' (take (length b - c) (drop c b)) x size t'' → topOf s' ≡ top
+    → Turn n s t b k c s' x size t''
+turns {n} {s} {t} {b} {k} {c} {s'} {t'} {top} {x} {size} {t''} u more f e =
+    let d = drop c b in
+    let left = subst (λ (l : List ℕ). FrontStep n top t' l x size t'') (rest-is c b) f in
+    let does = left .changes s' e (u .held) in
+    let (first, forward) = records-left d size (rw (length-drop c b) (omega arith)) (left .within) (left .taken) in
+    let rest : eachBy (stepped n) k c s' t' (take size d ∷ recordsOf (drop size d)) ≡ eachBy (stepped n) 0 0 s t (recordsOf b) = rw first at (u .same) in
+    let within : c + size ≤ length b = omega (arith, left .within, length-drop c b, u .within) in
+    let held = subst (λ (r : Result). Held n (r .session) (r .tables)) (sym (does .result)) (held-again (u .held) (take size d)) in
+    record {
+      forward = forward;
+      within = within;
+      place = does .place;
+      held = held;
+      stops =
+          λ e.
+          let refusal = step-refused n s' t' (take size d) (sym (ap (λ (r : Result). r .answer) (does .result)) ∙ ap answerBy e) in
+          rw (ap (λ (r : Result). r .tables) (does .result ∙ refusal))
+          (sym (each-stops (stepped n) k c s' t' (take size d) (recordsOf (drop size d)) refusal) ∙ rest);
+      goes =
+          λ is makes.
+          let e = ap (λ (y : Change). resultBy s' y t'') is ∙ makes in
+          let long : length (take size d) ≡ size = length-take-le size d (left .within) in
+          let on = rw long at (sym (each-on (stepped n) k c s' t' (take size d) (recordsOf (drop size d)) (sym (does .result) ∙ e)) ∙ rest) in
+          record {
+            held = subst (λ (r : Result). Held n (r .session) (r .tables)) e held;
+            few = omega (arith, u .few, forward);
+            within = within;
+            same = rw (drop-drop size c b) at on;
+          };
+    }
 
 -- ---- the call
 

@@ -18,7 +18,7 @@ fn add_scaled(sums: &mut [i64], m: i32, row: &[i32])
     while j < row.len() {
         let s = sums[j];
         let k = row[j];
-        sums[j] = conditions::exact::plus_times(s, m, k);
+        sums[j] = contents::exact::plus_times(s, m, k);
         j += 1;
     }
 }
@@ -33,7 +33,7 @@ fn sum_rows(table: &[i32], picks: &[u16], multipliers: &[i32]) -> [i64; rows::RO
     while i < picks.len() {
         let f = picks[i];
         let m = multipliers[i];
-        add_scaled(&mut sums, m, conditions::cells::row(table, f));
+        add_scaled(&mut sums, m, contents::cells::row(table, f));
         i += 1;
     }
     sums
@@ -47,7 +47,7 @@ fn lowest(sums: [i64; rows::ROW_CELLS], modulus: i32) -> Reached
     let mut k: usize = 0;
     while k < rows::UNKNOWNS {
         let s = sums[k + 1];
-        if !conditions::exact::is_multiple(s, modulus) {
+        if !contents::exact::is_multiple(s, modulus) {
             return Reached::Coefficient(k, s);
         }
         k += 1;

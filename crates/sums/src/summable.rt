@@ -7,13 +7,13 @@ ghost use Rattle.rows.specs.Sum.{summand, summable};
 fn is_summand(table: &[i32], f: u16, m: i32) -> bool
     ensures { λ r. ⌜ r ≡ summand unknowns (now (table .entry)) (record { form = f; multiplier = m }) ⌝ }
 {
-    if !conditions::cells::has_form(table, f) {
+    if !contents::cells::has_form(table, f) {
         return false;
     }
-    if !conditions::content::all_in_range(conditions::cells::row(table, f)) {
+    if !contents::content::all_in_range(contents::cells::row(table, f)) {
         return false;
     }
-    conditions::exact::is_between(-rows::LARGEST_MULTIPLIER, rows::LARGEST_MULTIPLIER, m)
+    contents::exact::is_between(-rows::LARGEST_MULTIPLIER, rows::LARGEST_MULTIPLIER, m)
 }
 
 pub fn is_summable(table: &[i32], picks: &[u16], multipliers: &[i32]) -> bool

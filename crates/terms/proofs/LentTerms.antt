@@ -19,7 +19,7 @@ use Rattle.ledger.specs.Checks.{Check, _else_, formIn, formsOf}
 use Rattle.ledger.specs.Apply.{Finding, pass, finding}
 use Rattle.ledger.proofs.Findings.{pass→passed}
 use Rattle.ledger.specs.Bytes.{termsBehind}
-use Rattle.records.specs.Fields.{Listed, TermsRead}
+use Rattle.fields.specs.Fields.{Listed, TermsRead}
 use Rattle.rules.specs.Read.{FormsHeld, formsIn}
 use Rattle.terms.specs.Picks.{Paired}
 use Rattle.terms.proofs.TermParts.{forms-terms}

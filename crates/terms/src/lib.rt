@@ -1,20 +1,19 @@
 // The rules on sums: FK and CL. Both read their terms, test forms, kinds and multipliers, and then what the sum reaches.
 ghost use mathlib.Core.Path.{_≡_};
-ghost use mathlib.Core.Bool.{_&&_};
-ghost use Rattle.ints.specs.Tests.{eqZ, between, all};
+ghost use Rattle.ints.specs.Tests.{eqZ, all};
 ghost use lib.ListN.{length};
 ghost use Rattle.rows.specs.Limits.{unknowns, mostTerms};
-ghost use Rattle.rows.specs.Form.{formAt, Inside, legalMultiplier};
+ghost use Rattle.rows.specs.Form.{formAt, Inside};
 ghost use Rattle.rows.specs.Sum.{terms};
 ghost use Rattle.ledger.specs.Record.{FK, CL, behindLetters};
 ghost use Rattle.ledger.specs.Bytes.{termsBehind};
-ghost use Rattle.records.specs.Fields.{Listed};
+ghost use Rattle.fields.specs.Fields.{Listed};
 ghost use Rattle.proposals.specs.Proposing.{Scratch};
 ghost use Rattle.rules.specs.Read.{FormsHeld, Judged, ProposesSum};
 ghost use Rattle.terms.specs.Picks.{Picked, Paired, allowed};
+use fields::read_terms;
 use proposals::Proposal;
 use proposals::derived::all_negated;
-use records::fields::read_terms;
 use records::marks::BEHIND_LETTERS;
 use rows::Reached;
 use session::answers::Refusal;
@@ -25,11 +24,11 @@ fn term_allowed(forms: &[i32], f: u16, m: i32, low: i32, high: i32) -> bool
     requires { ⌜ Inside unknowns (now forms) f ⌝ }
     ensures { λ r. ⌜ r ≡ allowed low high (formAt unknowns (now (forms .entry)) f .kind) m ⌝ }
 {
-    let kind = conditions::cells::kind(forms, f);
-    if !conditions::exact::is_between(low, high, kind) {
+    let kind = contents::cells::kind(forms, f);
+    if !contents::exact::is_between(low, high, kind) {
         return false;
     }
-    conditions::content::legal_multiplier(kind, m)
+    contents::content::legal_multiplier(kind, m)
 }
 
 // Whether every term is.
@@ -57,7 +56,7 @@ fn divisors_are(forms: &[i32], picks: &[u16], divisor: i32) -> bool
     let mut i: usize = 0;
     while i < picks.len() {
         let f = picks[i];
-        let d = conditions::cells::divisor(forms, f);
+        let d = contents::cells::divisor(forms, f);
         if d != divisor {
             return false;
         }
@@ -110,14 +109,14 @@ fn judge_clash(count: u16, forms: &[i32], picks: &[u16], multipliers: &[i32]) ->
     ) {
         return Verdict::Fail(Refusal::NotAllowed);
     }
-    let d = conditions::cells::divisor(forms, picks[0]);
+    let d = contents::cells::divisor(forms, picks[0]);
     if !divisors_are(forms, picks, d) {
         return Verdict::Fail(Refusal::NotAllowed);
     }
     match sums::combine(forms, picks, multipliers, d) {
         Reached::Coefficient(_, _) => Verdict::Fail(Refusal::ConditionFails),
         Reached::Constant(k) => {
-            if conditions::exact::is_multiple(k, d) {
+            if contents::exact::is_multiple(k, d) {
                 Verdict::Fail(Refusal::ConditionFails)
             } else {
                 Verdict::Pass

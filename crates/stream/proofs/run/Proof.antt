@@ -23,9 +23,6 @@ entered-requires c κs = search needs
 enum-known-verdict : tie.Need-enum-known-verdict
 enum-known-verdict c = search needs
 
-stopped-requires : tie.Need-stopped-requires
-stopped-requires c κs = search needs
-
 same-length : tie.Need-same-length
 same-length c = search needs
 
@@ -37,10 +34,9 @@ same-length-3 c = search needs
 
 returns : tie.Need-returns
 returns c =
-    let b = c .before .before .before .before .before .before .before .before .before .before .before in
-    c .stopped .ensures (cells b)
-    ∙ run-refused unknowns (b .args .s) (cells b) (b .args .stream .now) _
-    (sym (c .before .before .before .before .entered .ensures) ∙ ap findingOf (c .before .before .verdict .given .1))
+    let b = c .before .before .before .before .before .before .before .before .before .before in
+    run-refused unknowns (b .args .s) (cells b) (b .args .stream .now) _
+    (sym (c .before .before .before .entered .ensures) ∙ ap findingOf (c .before .verdict .given .1))
 
 enum-told : tie.Need-enum-told
 enum-told c = search needs
@@ -110,7 +106,6 @@ run-spec =
     (tie.spec
     entered-requires
     enum-known-verdict
-    stopped-requires
     same-length
     same-length-2
     same-length-3

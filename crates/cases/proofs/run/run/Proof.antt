@@ -6,10 +6,10 @@ use Rattle.cases.proofs.run.run.Statement.{statement}
 use Rattle.cases.proofs.run.run.Tie as tie
 
 abbrev Inv-loop : tie.InvT-loop
-Inv-loop text trials₀ step₀ i₀ trials step i = (i ≤ length text)
+Inv-loop text present₀ kept₀ step₀ i₀ present kept step i = (i ≤ length text)
 
 abbrev μ-loop : tie.MeasureT-loop
-μ-loop text trials₀ step₀ i₀ trials step i = length text - i
+μ-loop text present₀ kept₀ step₀ i₀ present kept step i = length text - i
 
 sevens-requires : tie.Need-sevens-requires Inv-loop μ-loop
 sevens-requires c κs = search needs
@@ -26,11 +26,8 @@ loop-holds c = search needs
 shared-slice-read-byte : tie.Need-shared-slice-read-byte Inv-loop μ-loop
 shared-slice-read-byte c = search needs
 
-ends-requires : tie.Need-ends-requires Inv-loop μ-loop
-ends-requires c κs = search needs
-
-run-to-requires : tie.Need-run-to-requires Inv-loop μ-loop
-run-to-requires c κs = search needs
+run-step-requires : tie.Need-run-step-requires Inv-loop μ-loop
+run-step-requires c κs = search needs
 
 read-requires : tie.Need-read-requires Inv-loop μ-loop
 read-requires c κs = search needs
@@ -58,8 +55,7 @@ run-spec =
     begun-requires
     loop-holds
     shared-slice-read-byte
-    ends-requires
-    run-to-requires
+    run-step-requires
     read-requires
     add-i
     loop-less

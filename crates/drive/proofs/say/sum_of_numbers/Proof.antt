@@ -6,10 +6,13 @@ use Rattle.drive.proofs.say.sum_of_numbers.Statement.{statement}
 use Rattle.drive.proofs.say.sum_of_numbers.Tie as tie
 
 abbrev Inv-loop : tie.InvT-loop
-Inv-loop cells sum₀ i₀ sum i = (i ≤ length cells)
+Inv-loop cells lent end sum₀ i₀ sum i = (i ≤ end) × (end ≤ length cells)
 
 abbrev μ-loop : tie.MeasureT-loop
-μ-loop cells sum₀ i₀ sum i = length cells - i
+μ-loop cells lent end sum₀ i₀ sum i = end - i
+
+least-requires : tie.Need-least-requires Inv-loop μ-loop
+least-requires c κs = search needs
 
 loop-holds : tie.Need-loop-holds Inv-loop μ-loop
 loop-holds c = search needs
@@ -44,6 +47,7 @@ sum-of-numbers-spec =
     (tie.spec
     Inv-loop
     μ-loop
+    least-requires
     loop-holds
     mul-wide
     shared-slice-read-wide

@@ -1,0 +1,2 @@
+pub mod SignedLaws
+pub mod FilledLaws

@@ -1,9 +1,5 @@
 // Changes a trial by hand, and prints parts of it. What is changed or printed is named by a word, of which the first letter counts; the
 // numbers stand at the record's end.
-use crate::trial::FORM_ROOM;
-use crate::trial::LINE_ROOM;
-use crate::trial::POOL_ROOM;
-use crate::trial::Trial;
 use fields::numbers::byte_at;
 use fields::numbers::i32_at;
 use fields::numbers::u16_at;
@@ -11,16 +7,11 @@ use printing::print;
 use printing::print_numbers;
 use session::state::Mark;
 use session::state::Session;
-
-fn print_bad() {
-    print(b"bad step\n");
-}
-
-// Nothing is done.
-pub fn bad(trial: Trial) -> Trial {
-    print_bad();
-    trial
-}
+use trial::Trial;
+use trial::bad;
+use trial::with_form_cell;
+use trial::with_line_cell;
+use trial::with_pool_cell;
 
 // The number of two bytes that begins so many bytes before the end, 0 if there is none.
 fn number(record: &[u8], back: usize) -> u16 {
@@ -72,34 +63,11 @@ fn with_mark(mut trial: Trial, record: &[u8]) -> Trial {
 }
 
 // A cell of the forms has four bytes.
-fn with_form_cell(mut trial: Trial, record: &[u8]) -> Trial {
-    let at = place(record, 6);
+fn with_form(trial: Trial, record: &[u8]) -> Trial {
     if record.len() < 4 {
         return bad(trial);
     }
-    if FORM_ROOM <= at {
-        return bad(trial);
-    }
-    trial.forms[at] = i32_at(record, record.len() - 4);
-    trial
-}
-
-fn with_pool_cell(mut trial: Trial, record: &[u8]) -> Trial {
-    let at = place(record, 4);
-    if POOL_ROOM <= at {
-        return bad(trial);
-    }
-    trial.pool[at] = number(record, 2);
-    trial
-}
-
-fn with_line_cell(mut trial: Trial, record: &[u8]) -> Trial {
-    let at = place(record, 4);
-    if LINE_ROOM <= at {
-        return bad(trial);
-    }
-    trial.lines[at] = number(record, 2);
-    trial
+    with_form_cell(trial, place(record, 6), i32_at(record, record.len() - 4))
 }
 
 // change: counts of forms, lines, literals and open levels; mark, a place, forms, lines and literals; or forms, pool or lines, a place and
@@ -108,9 +76,9 @@ pub fn change(trial: Trial, record: &[u8]) -> Trial {
     match byte_at(record, 0) {
         b'c' => with_counts(trial, record),
         b'm' => with_mark(trial, record),
-        b'f' => with_form_cell(trial, record),
-        b'p' => with_pool_cell(trial, record),
-        b'l' => with_line_cell(trial, record),
+        b'f' => with_form(trial, record),
+        b'p' => with_pool_cell(trial, place(record, 4), number(record, 2)),
+        b'l' => with_line_cell(trial, place(record, 4), number(record, 2)),
         _ => bad(trial),
     }
 }
@@ -118,10 +86,10 @@ pub fn change(trial: Trial, record: &[u8]) -> Trial {
 // So many cells from this place on.
 fn print_part(word: &[u8], cells: &[u16], from: usize, count: usize) {
     if cells.len() < from {
-        return print_bad();
+        return print(b"bad command\n");
     }
     if cells.len() - from < count {
-        return print_bad();
+        return print(b"bad command\n");
     }
     let end = from + count;
     print_numbers(word, &cells[from..end]);
@@ -149,6 +117,6 @@ pub fn print_named(trial: Trial, record: &[u8]) {
             print_cells(b'p', trial, 0, session.literals as usize);
             print_cells(b'l', trial, 0, 2 * (session.lines as usize));
         }
-        _ => print_bad(),
+        _ => print(b"bad command\n"),
     }
 }

@@ -1,10 +1,10 @@
 // Whether two trials differ in the answer, in the session or in a cell.
 ghost use mathlib.Core.Path.{_≡_};
 ghost use lib.ListN.{length};
-use crate::trial::Trial;
 use conditions::compare::is_scaled;
 use session::state::Mark;
 use session::state::Session;
+use trial::Trial;
 
 fn marks_differ(mark: Mark, other: Mark) -> bool {
     mark.forms != other.forms || mark.lines != other.lines || mark.literals != other.literals

@@ -3,20 +3,32 @@
 // nothing is printed. tables, change and print: see `change.rt`.
 //
 // Before the first case there is a fresh session, and the tables hold only sevens.
-use crate::calls::called;
-use crate::calls::feed;
-use crate::calls::least;
-use crate::change::bad;
 use crate::change::change;
 use crate::change::print_named;
 use crate::change::with_lengths;
+use crate::differ::trials_differ;
 use crate::reading::Step;
 use crate::reading::begun;
 use crate::reading::in_step;
 use crate::reading::read;
-use crate::trial::Trial;
-use crate::trial::sevens;
 use fields::numbers::byte_at;
+use printing::print;
+use session::state::Session;
+use trial::Trial;
+use trial::bad;
+use trial::calls::called;
+use trial::filled;
+use trial::least;
+
+// One record by value and, on a copy, with the session lent. Says so where the two differ in anything.
+fn feed(letter: u8, trial: Trial, record: &[u8]) -> Trial {
+    let fed = called(letter, trial, record);
+    let lent = called(b'l', trial, record);
+    if trials_differ(fed, lent) {
+        print(b"differs when lent\n");
+    }
+    fed
+}
 
 // One step; none, if no word was read.
 fn act(trial: Trial, letter: u8, record: &[u8]) -> Trial {
@@ -56,8 +68,8 @@ fn run_step(trial: Trial, step: Step) -> Trial {
 
 // Holds what the steps of a case work on, and what the next case begins with.
 pub fn run(text: &[u8]) {
-    let mut present = sevens();
-    let mut kept = sevens();
+    let mut present = filled(7, Session::FORM_TABLE, Session::POOL, Session::LINE_TABLE);
+    let mut kept = present;
     let mut step = begun(b' ');
     let mut i: usize = 0;
     while i < text.len() {

@@ -1,11 +1,12 @@
 // Runs the sum of rows at the corners of what it takes, and just outside them, and prints what it reaches.
 ghost use Prim.Native.Nat.{_<_};
 use libc::STDOUT_FILENO;
+use printing::print;
 use rows::Reached;
 
 fn print_signed(x: i64) {
     if x < 0 {
-        io::write_all(STDOUT_FILENO, b"-");
+        print(b"-");
         io::print_decimal(STDOUT_FILENO, (-1 - x) as u64 + 1);
     } else {
         io::print_decimal(STDOUT_FILENO, x as u64);
@@ -45,22 +46,22 @@ fn single(at: usize, number: i32) -> [i32; CELLS]
 
 fn show(table: &[i32], picks: &[u16], multipliers: &[i32], modulus: i32) {
     if !sums::summable::is_summable(table, picks, multipliers) {
-        io::write_all(STDOUT_FILENO, b"not summable\n");
+        print(b"not summable\n");
         return;
     }
     match sums::combine(table, picks, multipliers, modulus) {
         Reached::Coefficient(unknown, sum) => {
-            io::write_all(STDOUT_FILENO, b"unknown ");
+            print(b"unknown ");
             io::print_decimal(STDOUT_FILENO, unknown as u64);
-            io::write_all(STDOUT_FILENO, b" sum ");
+            print(b" sum ");
             print_signed(sum);
         }
         Reached::Constant(sum) => {
-            io::write_all(STDOUT_FILENO, b"constant ");
+            print(b"constant ");
             print_signed(sum);
         }
     }
-    io::write_all(STDOUT_FILENO, b"\n");
+    print(b"\n");
 }
 
 // The moduli at which FK and CL are at their corners.
@@ -72,7 +73,7 @@ fn show_moduli(table: &[i32], picks: &[u16], multipliers: &[i32]) {
 
 // Every form of the table, each m times.
 fn all_forms(title: &[u8], table: [i32; CELLS], m: i32) {
-    io::write_all(STDOUT_FILENO, title);
+    print(title);
     let multipliers = [m; rows::MOST_TERMS];
     show_moduli(&table, &PICKS, &multipliers);
 }
@@ -114,7 +115,7 @@ const PICKS: [u16; 32] = [
 
 // Terms that may not be summed: too many, too large, without a multiplier each.
 fn outside_terms() {
-    io::write_all(STDOUT_FILENO, b"terms outside\n");
+    print(b"terms outside\n");
     let table = single(0, 0);
     let multipliers = [1_000_000i32; 33];
     show(&table, &[0u16; 33], &multipliers, 0);
@@ -124,7 +125,7 @@ fn outside_terms() {
 
 // A form that the table lacks a cell of, a number that is too large, and the like of it without that form.
 fn outside_cells() {
-    io::write_all(STDOUT_FILENO, b"cells outside, and inside\n");
+    print(b"cells outside, and inside\n");
     let table = single(479, 1_000_000_001);
     let multipliers = [1_000_000i32; 32];
     show(&table[0..479], &PICKS, &multipliers, 0);

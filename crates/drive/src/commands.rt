@@ -1,16 +1,18 @@
 // How long a command is, and those that call nothing: each sets a part of the state.
 ghost use Prim.Native.Nat.{_<_, _≤_};
-use crate::tables::FORM_ROOM;
-use crate::tables::LINE_ROOM;
-use crate::tables::POOL_ROOM;
-use crate::tables::State;
-use crate::tables::bad;
-use crate::tables::cleared;
-use crate::tables::least;
 use fields::numbers::byte_at;
 use fields::numbers::i32_at;
 use session::state::Mark;
 use session::state::Session;
+use trial::FORM_ROOM;
+use trial::LINE_ROOM;
+use trial::POOL_ROOM;
+use trial::Trial;
+use trial::bad;
+use trial::filled;
+use trial::with_form_cell;
+use trial::with_line_cell;
+use trial::with_pool_cell;
 
 // The number of two bytes at this place; a byte that is not there counts as 0.
 fn number(text: &[u8], at: usize) -> u16 {
@@ -41,14 +43,14 @@ fn length_of(text: &[u8], table: usize) -> usize
 }
 
 // T: other lengths, over tables that are 0 throughout, and the fresh session.
-pub fn lend(s: State, text: &[u8]) -> State {
+pub fn lend(s: Trial, text: &[u8]) -> Trial {
     let f = length_of(text, 0);
     let p = length_of(text, 1);
     let l = length_of(text, 2);
     if FORM_ROOM < f || POOL_ROOM < p || LINE_ROOM < l {
         return bad(s);
     }
-    cleared(f, p, l)
+    filled(0, f, p, l)
 }
 
 fn mark_of(text: &[u8], level: usize) -> Mark
@@ -77,7 +79,7 @@ fn marks_of(text: &[u8]) -> [Mark; Session::MOST_LEVELS] {
 }
 
 // S: another session.
-pub fn set_session(mut s: State, text: &[u8]) -> State {
+pub fn set_session(mut s: Trial, text: &[u8]) -> Trial {
     let next = Session {
         forms: number(text, 1),
         lines: number(text, 3),
@@ -90,31 +92,19 @@ pub fn set_session(mut s: State, text: &[u8]) -> State {
 }
 
 // F: another cell of the forms, which has four bytes.
-pub fn set_form(mut s: State, text: &[u8]) -> State {
-    let index = number(text, 1) as usize;
-    if least(s.lent_forms, FORM_ROOM) <= index || text.len() < 7 {
+pub fn set_form(s: Trial, text: &[u8]) -> Trial {
+    if text.len() < 7 {
         return bad(s);
     }
-    s.forms[index] = i32_at(text, 3);
-    s
+    with_form_cell(s, number(text, 1) as usize, i32_at(text, 3))
 }
 
 // P: another cell of the pool.
-pub fn set_literal(mut s: State, text: &[u8]) -> State {
-    let index = number(text, 1) as usize;
-    if least(s.lent_pool, POOL_ROOM) <= index {
-        return bad(s);
-    }
-    s.pool[index] = number(text, 3);
-    s
+pub fn set_literal(s: Trial, text: &[u8]) -> Trial {
+    with_pool_cell(s, number(text, 1) as usize, number(text, 3))
 }
 
 // L: another cell of the lines.
-pub fn set_line(mut s: State, text: &[u8]) -> State {
-    let index = number(text, 1) as usize;
-    if least(s.lent_lines, LINE_ROOM) <= index {
-        return bad(s);
-    }
-    s.lines[index] = number(text, 3);
-    s
+pub fn set_line(s: Trial, text: &[u8]) -> Trial {
+    with_line_cell(s, number(text, 1) as usize, number(text, 3))
 }

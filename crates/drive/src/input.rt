@@ -4,8 +4,8 @@ ghost use lib.ListN.{length};
 use crate::say::print_bad;
 use crate::say::print_unread;
 use crate::steps::steps;
-use crate::tables::cleared;
 use libc::STDIN_FILENO;
+use trial::filled;
 
 // Room for the longest command, of 65,538 bytes, and much more, so that there is always room to read into.
 pub const BUFFER: usize = 131_072;
@@ -43,7 +43,7 @@ fn receive(buffer: &mut [u8], held: usize) -> usize
 
 // Nothing says that the input ends, and a loop has to: it counts its turns down, from a number that no run uses up.
 pub fn drive(buffer: &mut [u8]) {
-    let mut present = cleared(0, 0, 0);
+    let mut present = filled(0, 0, 0, 0);
     let mut held: usize = 0;
     let mut turns = u64::MAX;
     while turns > 0 {

@@ -1,11 +1,9 @@
 // Reads commands from standard input until the end, calls the library as they say, on any session and any tables, and prints after each
 // call what it answered, the session and a sum over each table.
-mod calls;
 mod commands;
 mod input;
 mod say;
 mod steps;
-mod tables;
 
 fn main() {
     let mut buffer = [0u8; input::BUFFER];

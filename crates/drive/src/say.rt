@@ -1,13 +1,11 @@
-// Prints: what a run came to, the session, and a sum over each table.
-use crate::tables::State;
-use crate::tables::least;
+// Prints: the session, and a sum over each table.
 use libc::STDERR_FILENO;
 use printing::print;
 use printing::print_number;
-use printing::stop_number;
-use session::answers::Verdict;
 use session::state::Mark;
 use session::state::Session;
+use trial::Trial;
+use trial::least;
 
 pub fn print_bad() {
     print(b"bad command\n");
@@ -19,14 +17,6 @@ pub fn print_unread() {
 
 fn print_count(n: u16) {
     print_number(n as u64);
-}
-
-pub fn print_run(records: usize, bytes: usize, stop: Verdict) {
-    print(b"run");
-    print_number(records as u64);
-    print_number(bytes as u64);
-    print_count(stop_number(stop));
-    print(b"\n");
 }
 
 fn print_mark(mark: Mark) {
@@ -94,7 +84,7 @@ fn sum_of_numbers(cells: &[u16], lent: usize) -> u64 {
 }
 
 // The two lines after each answer.
-pub fn print_state(s: State) {
+pub fn print_trial(s: Trial) {
     let session = s.session;
     print_session(session);
     print(b"cells");

@@ -37,17 +37,17 @@ above : (x : ℤ) → SFits w64 x → ltZ x (pos 0) ≡ false → (n : ℕ) × (
 above (pos k) f t = (k, refl, f .sfits)
 above (negsuc k) f t = never (sym t)
 
-left : (c : tie.After-write-all) → (n : ℕ) × (negsuc 0 -ℤ toZ w64 (ofZ w64 (c .before .before .before .args .x)) ≡ pos n) × (n < 2 ^ 63)
+left : (c : tie.After-print) → (n : ℕ) × (negsuc 0 -ℤ toZ w64 (ofZ w64 (c .before .before .before .args .x)) ≡ pos n) × (n < 2 ^ 63)
 left c =
     let s = c .before .before .before in
     let x = s .args .x in
     rw (toZ-ofZ w64 x (s .fits .x)) (below x (s .fits .x) (rw (toZ-ofZ w64 x (s .fits .x)) at (c .before .before .if1 .taken)))
 
-slice-aggregate-write-all : tie.Need-slice-aggregate-write-all
-slice-aggregate-write-all c = search needs
+slice-aggregate-print : tie.Need-slice-aggregate-print
+slice-aggregate-print c = search needs
 
-write-all-requires : tie.Need-write-all-requires
-write-all-requires c κs = search needs
+print-requires : tie.Need-print-requires
+print-requires c κs = search needs
 
 sub-print-decimal : tie.Need-sub-print-decimal
 sub-print-decimal c = let (n, e, h) = left c in fit e (fits e h)
@@ -81,8 +81,8 @@ pub print-signed-spec : {M : Type 1} → statement M
 print-signed-spec =
     tie.close
     (tie.spec
-    slice-aggregate-write-all
-    write-all-requires
+    slice-aggregate-print
+    print-requires
     sub-print-decimal
     cast-print-decimal
     add-print-decimal

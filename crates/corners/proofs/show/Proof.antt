@@ -10,11 +10,11 @@ use Rattle.corners.proofs.show.Tie as tie
 is-summable-requires : tie.Need-is-summable-requires
 is-summable-requires c κs = search needs
 
-slice-aggregate-write-all : tie.Need-slice-aggregate-write-all
-slice-aggregate-write-all c = search needs
+slice-aggregate-print : tie.Need-slice-aggregate-print
+slice-aggregate-print c = search needs
 
-write-all-requires : tie.Need-write-all-requires
-write-all-requires c κs = search needs
+print-requires : tie.Need-print-requires
+print-requires c κs = search needs
 
 returns : tie.Need-returns
 returns c = search needs
@@ -27,20 +27,20 @@ combine-requires c κs =
 enum-known-unknown : tie.Need-enum-known-unknown
 enum-known-unknown c = search needs
 
-slice-aggregate-write-all-2 : tie.Need-slice-aggregate-write-all-2
-slice-aggregate-write-all-2 c = search needs
+slice-aggregate-print-2 : tie.Need-slice-aggregate-print-2
+slice-aggregate-print-2 c = search needs
 
-write-all-requires-2 : tie.Need-write-all-requires-2
-write-all-requires-2 c κs = search needs
+print-requires-2 : tie.Need-print-requires-2
+print-requires-2 c κs = search needs
 
 print-decimal-requires : tie.Need-print-decimal-requires
 print-decimal-requires c κs = search needs
 
-slice-aggregate-write-all-3 : tie.Need-slice-aggregate-write-all-3
-slice-aggregate-write-all-3 c = search needs
+slice-aggregate-print-3 : tie.Need-slice-aggregate-print-3
+slice-aggregate-print-3 c = search needs
 
-write-all-requires-3 : tie.Need-write-all-requires-3
-write-all-requires-3 c κs = search needs
+print-requires-3 : tie.Need-print-requires-3
+print-requires-3 c κs = search needs
 
 print-signed-requires : tie.Need-print-signed-requires
 print-signed-requires c κs = search needs
@@ -48,20 +48,20 @@ print-signed-requires c κs = search needs
 enum-known-sum : tie.Need-enum-known-sum
 enum-known-sum c = search needs
 
-slice-aggregate-write-all-4 : tie.Need-slice-aggregate-write-all-4
-slice-aggregate-write-all-4 c = search needs
+slice-aggregate-print-4 : tie.Need-slice-aggregate-print-4
+slice-aggregate-print-4 c = search needs
 
-write-all-requires-4 : tie.Need-write-all-requires-4
-write-all-requires-4 c κs = search needs
+print-requires-4 : tie.Need-print-requires-4
+print-requires-4 c κs = search needs
 
 print-signed-requires-2 : tie.Need-print-signed-requires-2
 print-signed-requires-2 c κs = search needs
 
-slice-aggregate-write-all-5 : tie.Need-slice-aggregate-write-all-5
-slice-aggregate-write-all-5 c = search needs
+slice-aggregate-print-5 : tie.Need-slice-aggregate-print-5
+slice-aggregate-print-5 c = search needs
 
-write-all-requires-5 : tie.Need-write-all-requires-5
-write-all-requires-5 c κs = search needs
+print-requires-5 : tie.Need-print-requires-5
+print-requires-5 c κs = search needs
 
 returns-2 : tie.Need-returns-2
 returns-2 c = search needs
@@ -71,21 +71,21 @@ show-spec =
     tie.close
     (tie.spec
     is-summable-requires
-    slice-aggregate-write-all
-    write-all-requires
+    slice-aggregate-print
+    print-requires
     returns
     combine-requires
     enum-known-unknown
-    slice-aggregate-write-all-2
-    write-all-requires-2
+    slice-aggregate-print-2
+    print-requires-2
     print-decimal-requires
-    slice-aggregate-write-all-3
-    write-all-requires-3
+    slice-aggregate-print-3
+    print-requires-3
     print-signed-requires
     enum-known-sum
-    slice-aggregate-write-all-4
-    write-all-requires-4
+    slice-aggregate-print-4
+    print-requires-4
     print-signed-requires-2
-    slice-aggregate-write-all-5
-    write-all-requires-5
+    slice-aggregate-print-5
+    print-requires-5
     returns-2)

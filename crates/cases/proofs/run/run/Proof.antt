@@ -11,11 +11,8 @@ Inv-loop text present₀ kept₀ step₀ i₀ present kept step i = (i ≤ lengt
 abbrev μ-loop : tie.MeasureT-loop
 μ-loop text present₀ kept₀ step₀ i₀ present kept step i = length text - i
 
-sevens-requires : tie.Need-sevens-requires Inv-loop μ-loop
-sevens-requires c κs = search needs
-
-sevens-requires-2 : tie.Need-sevens-requires-2 Inv-loop μ-loop
-sevens-requires-2 c κs = search needs
+filled-requires : tie.Need-filled-requires Inv-loop μ-loop
+filled-requires c κs = search needs
 
 begun-requires : tie.Need-begun-requires Inv-loop μ-loop
 begun-requires c κs = search needs
@@ -50,8 +47,7 @@ run-spec =
     (tie.spec
     Inv-loop
     μ-loop
-    sevens-requires
-    sevens-requires-2
+    filled-requires
     begun-requires
     loop-holds
     shared-slice-read-byte

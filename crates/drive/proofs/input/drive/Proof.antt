@@ -12,8 +12,8 @@ Inv-loop buffer₀ present₀ held₀ turns₀ buffer present held turns = (leng
 abbrev μ-loop : tie.MeasureT-loop
 μ-loop buffer₀ present₀ held₀ turns₀ buffer present held turns = turns
 
-cleared-requires : tie.Need-cleared-requires Inv-loop μ-loop
-cleared-requires c κs = search needs
+filled-requires : tie.Need-filled-requires Inv-loop μ-loop
+filled-requires c κs = search needs
 
 loop-holds : tie.Need-loop-holds Inv-loop μ-loop
 loop-holds c = search needs
@@ -72,7 +72,7 @@ drive-spec =
     (tie.spec
     Inv-loop
     μ-loop
-    cleared-requires
+    filled-requires
     loop-holds
     receive-requires
     same-length

@@ -1,16 +1,18 @@
-// The calls of the library on a trial. The letter of a call is that of its step, and l that of a feed with the session lent.
-ghost use Prim.Native.Nat.{_≤_};
-use crate::differ::trials_differ;
-use crate::trial::FORM_ROOM;
-use crate::trial::LINE_ROOM;
-use crate::trial::POOL_ROOM;
-use crate::trial::Trial;
+// The library's calls on a trial, each by a letter: s a start, o the order test, r the standing, f a feed and n a run, with what they answer
+// printed; a a feed and l one with the session lent, of which nothing is printed.
+use crate::FORM_ROOM;
+use crate::LINE_ROOM;
+use crate::POOL_ROOM;
+use crate::Trial;
+use crate::least;
 use checker::keep::Fed;
 use printing::print;
 use printing::print_answer;
+use printing::print_number;
 use printing::print_refused;
 use printing::print_standing;
 use printing::print_start;
+use printing::stop_number;
 use session::answers::Answer;
 use session::answers::Made;
 use session::answers::Verdict;
@@ -85,6 +87,28 @@ fn start(forms: &mut [i32], pool: &mut [u16], lines: &mut [u16]) -> Outcome {
     Outcome { session, answer: 0 }
 }
 
+// Records accepted, bytes accepted and the stopping number.
+fn print_run(records: usize, bytes: usize, stop: Verdict) {
+    print(b"run");
+    print_number(records as u64);
+    print_number(bytes as u64);
+    print_number(stop_number(stop) as u64);
+    print(b"\n");
+}
+
+fn run(
+    s: Session,
+    forms: &mut [i32],
+    pool: &mut [u16],
+    lines: &mut [u16],
+    bytes: &[u8],
+) -> Session {
+    let ran = stream::run(s, forms, pool, lines, bytes);
+    let stop = ran.stop;
+    print_run(ran.records, ran.bytes, stop);
+    ran.session
+}
+
 fn call(
     letter: u8,
     s: Session,
@@ -102,14 +126,12 @@ fn call(
                 answer: 0,
             }
         }
+        b'n' => Outcome {
+            session: run(s, forms, pool, lines, record),
+            answer: 0,
+        },
         _ => fed(letter, s, forms, pool, lines, record),
     }
-}
-
-pub fn least(a: usize, b: usize) -> usize
-    ensures { λ r. ⌜ r ≤ b ⌝ }
-{
-    if a < b { a } else { b }
 }
 
 // The call on as many cells as are lent.
@@ -139,15 +161,6 @@ pub fn called(letter: u8, trial: Trial, record: &[u8]) -> Trial {
         lent_pool: p,
         lent_lines: l,
         answer: outcome.answer,
+        is_bad: trial.is_bad,
     }
-}
-
-// One record by value and, on a copy, with the session lent. Says so where the two differ in anything.
-pub fn feed(letter: u8, trial: Trial, record: &[u8]) -> Trial {
-    let fed = called(letter, trial, record);
-    let lent = called(b'l', trial, record);
-    if trials_differ(fed, lent) {
-        print(b"differs when lent\n");
-    }
-    fed
 }

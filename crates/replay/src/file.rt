@@ -8,7 +8,7 @@ use pieces::Progress;
 use session::state::Session;
 
 // Large, so that the order of the tables is tested seldom: once for each piece. No record is nearly as long.
-const BUFFER: usize = 262_144;
+const BUFFER: usize = 131_072;
 
 // How far a file is judged, and what is left of it.
 struct Reading {

@@ -1,5 +1,5 @@
-// The library's calls on a trial, each by a letter: s a start, o the order test, r the standing, f a feed and n a run, with what they answer
-// printed; a a feed and l one with the session lent, of which nothing is printed.
+// The library's calls on a trial, each by a letter. Five print what they answer: `s` is a start, `o` the order test, `r` the standing, `f` a feed
+// and `n` a run. Two print nothing: `a` is a feed, and `l` a feed with the session lent.
 use crate::FORM_ROOM;
 use crate::LINE_ROOM;
 use crate::POOL_ROOM;

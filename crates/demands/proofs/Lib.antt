@@ -1,4 +1,5 @@
 pub mod OnLedger
 pub mod WithdrawalExact
+pub mod RecordsInForce
 pub mod Determined
 pub mod Useless

@@ -13,7 +13,8 @@ use Rattle.ledger.specs.Bytes.{applyBytes}
 use Rattle.ledger.specs.Run.{fedAll, refuted}
 use Rattle.ledger.specs.Run as ledger
 use Rattle.ledger.specs.Truth.{premisesTrue}
-use Rattle.ledger.specs.History.{afterBy, afterBytes, AcceptedBytes, bytesInForce}
+use Rattle.ledger.specs.History.{afterBytes}
+use Rattle.ledger.specs.Kept.{AcceptedBytes, bytesInForce}
 use Rattle.ledger.proofs.InForce.{bytes-in-force}
 use Rattle.ledger.proofs.LegalLaws.{legal-fresh, legal-after-bytes}
 use Rattle.ledger.proofs.LinesTrue.{refuted-by-bytes}
@@ -22,9 +23,13 @@ use Rattle.session.specs.Cells.{Tables, named, excess, ledgerOf}
 use Rattle.session.specs.Calls.{entry, started, start, stands, standing}
 use Rattle.checker.specs.Feed.{feed}
 use Rattle.checker.proofs.Beside.{laid-held, excess-beside, entry-beside}
-use Rattle.demands.specs.History.{Call, fed, State, begun, calledAll, recordsFed, history, stillInForce, EachAccepted}
+use Rattle.demands.specs.History.{Call, fed, State, begun, calledAll, recordsFed, history, EachAccepted}
 use Rattle.pieces.proofs.RunLaid.{feed-laid, ledger-read}
 use Rattle.demands.proofs.OnLedger.{laid, start-laid, all-laid, fed-laid, accepted-laid}
+
+-- the records still in force, worked out, the first first
+abbrev pub stillInForce : ℕ → Tables → List Call → List (List ℕ)
+stillInForce n t cs = reverse (bytesInForce n (history n t cs))
 
 stands-same : {a b : ledger.Standing} → stands a ≡ stands b → a ≡ b
 stands-same e = cc
@@ -64,7 +69,7 @@ module _ (n : ℕ) (t : Tables) (ok : start n t .answer ≡ started) (calls : Li
       ∙ ap (laid n x) same
 
   kept-accepted : EachAccepted n (begun n t) (stillInForce n t calls)
-  unfolding afterBy
+  unfolding afterBytes
   kept-accepted =
       let kept = bytesInForce n since in
       let all = accepted-back n [] (reverse kept) (subst (AcceptedBytes n) (sym (reverse-reverse kept)) (bytes-in-force n since .1)) .0 in

@@ -4,7 +4,7 @@ use Prim.Native.Nat.{ℕ}
 use lib.ListN.{take}
 use Rattle.ledger.specs.Record.{isAccepted}
 use Rattle.ledger.specs.Run.{recordsOf}
-use Rattle.ledger.specs.History.{bytesInForce}
+use Rattle.ledger.specs.History.{InForce}
 use Rattle.session.specs.declared.state.Session.{Session}
 use Rattle.session.specs.Cells.{Tables}
 use Rattle.session.specs.Calls.{start}
@@ -52,9 +52,9 @@ recordsFed n s (c ∷ cs) = recordsBy n s c ++ recordsFed n (called n s c) cs
 abbrev pub history : ℕ → Tables → List Call → List (List ℕ)
 history n t cs = reverse (recordsFed n (begun n t) cs)
 
--- those still in force, the first first
-abbrev pub stillInForce : ℕ → Tables → List Call → List (List ℕ)
-stillInForce n t cs = reverse (bytesInForce n (history n t cs))
+-- bs are those still in force, the first first
+abbrev pub StillInForce : ℕ → Tables → List Call → List (List ℕ) → Type 0
+StillInForce n t cs bs = InForce n (history n t cs) (reverse bs)
 
 -- records fed one after the other, each of which is accepted
 unfoldable pub EachAccepted : ℕ → State → List (List ℕ) → Type 0

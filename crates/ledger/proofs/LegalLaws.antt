@@ -18,9 +18,9 @@ use Rattle.ledger.specs.Ledger.{Line, Mark, Ledger, fresh, noLine, liter
 use Rattle.ledger.specs.Ledger.{New, newForm, newLine, add, opened, backTo, withdrawn}
 use Rattle.ledger.specs.Record.{Record, make, OP, WD}
 use Rattle.ledger.specs.Checks.{makes, tests, room, checks, Passed}
-use Rattle.ledger.specs.Apply.{Outcome, done, apply}
+use Rattle.ledger.specs.Apply.{done, apply}
 use Rattle.ledger.specs.Bytes.{shape, decode, applyBytes}
-use Rattle.ledger.specs.History.{afterBy, afterBytes}
+use Rattle.ledger.specs.History.{afterBytes}
 use Rattle.ledger.specs.Legal.{lineBelow, LegalLine, MarksIn, Named, Legal}
 use Rattle.ledger.proofs.Findings.{passed-front, passed-back, judged-keeps, apply-keeps}
 use Rattle.ledger.proofs.Withdrawal.{marked-add, marked-done}
@@ -184,11 +184,7 @@ legal-fresh n =
       named = tt;
     }
 
-module _ {A : Type 0} (n : ℕ) (does : Ledger → A → Outcome) (keeps : (l : Ledger) (x : A) → Legal n l → Legal n (does l x .ledger)) where
-  legal-afterBy : (h : List A) → Legal n (afterBy does h)
-  unfolding afterBy
-  legal-afterBy [] = legal-fresh n
-  legal-afterBy (x ∷ h) = keeps (afterBy does h) x (legal-afterBy h)
-
 pub legal-after-bytes : (n : ℕ) (h : List (List ℕ)) → Legal n (afterBytes n h)
-legal-after-bytes n = legal-afterBy n (applyBytes n) (legal-applyBytes n)
+unfolding afterBytes
+legal-after-bytes n [] = legal-fresh n
+legal-after-bytes n (b ∷ h) = legal-applyBytes n (afterBytes n h) b (legal-after-bytes n h)

@@ -2,6 +2,7 @@ pub mod Findings
 pub mod Withdrawal
 pub mod InForce
 pub mod Restored
+pub mod StruckOut
 pub mod LiteralLaws
 pub mod TruthLaws
 pub mod LayoutLaws
@@ -10,3 +11,4 @@ pub mod StandingLaws
 pub mod LegalLaws
 pub mod LinesTrue
 pub mod RunLaws
+pub mod Carried

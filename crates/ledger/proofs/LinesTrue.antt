@@ -19,7 +19,7 @@ use Rattle.ledger.specs.Record.{Record, make, OP, WD}
 use Rattle.ledger.specs.Checks.{lineIn, makes, parents, tests, checks, Passed}
 use Rattle.ledger.specs.Apply.{Outcome, done, apply}
 use Rattle.ledger.specs.Bytes.{shape, decode, applyBytes}
-use Rattle.ledger.specs.History.{afterBy, after, afterBytes}
+use Rattle.ledger.specs.History.{afterBytes}
 use Rattle.ledger.specs.Run.{refuted, standing}
 use Rattle.ledger.specs.Legal.{lineBelow, Legal}
 use Rattle.ledger.specs.Truth.{lineTrue, linesTrue, chosenTrue, asPremise, premisesTrue}
@@ -113,17 +113,10 @@ good-applyBytes n l b g = judged-keeps (Good n) (shape b) l (apply n l (decode b
 
 -- ---- histories
 
-module _ {A : Type 0} (n : ℕ) (does : Ledger → A → Outcome) (keeps : (l : Ledger) (x : A) → Good n l → Good n (does l x .ledger)) where
-  good-afterBy : (h : List A) → Good n (afterBy does h)
-  unfolding afterBy
-  good-afterBy [] = record { legal = legal-fresh n; sound = λ k ρ p. rw take-nil tt }
-  good-afterBy (x ∷ h) = keeps (afterBy does h) x (good-afterBy h)
-
-pub good-after : (n : ℕ) (h : List Record) → Good n (after n h)
-good-after n = good-afterBy n (apply n) (good-apply n)
-
 pub good-after-bytes : (n : ℕ) (h : List (List ℕ)) → Good n (afterBytes n h)
-good-after-bytes n = good-afterBy n (applyBytes n) (good-applyBytes n)
+unfolding afterBytes
+good-after-bytes n [] = record { legal = legal-fresh n; sound = λ k ρ p. rw take-nil tt }
+good-after-bytes n (b ∷ h) = good-applyBytes n (afterBytes n h) b (good-after-bytes n h)
 
 -- ---- what it says of lines, and of an empty line
 
@@ -140,15 +133,6 @@ module _ (n : ℕ) (l : Ledger) (g : Good n l) where
       rw empty at (good-line-true i ρ inside (all-take (asPremise ρ (l .forms)) (suc i) (l .lines) p))
 
 module _ (n : ℕ) where
-  pub line-true : (h : List Record) (i : ℕ) (ρ : Integers) → i < length (after n h .lines)
-      → T (premisesTrue ρ (after n h .forms) (take (suc i) (after n h .lines)))
-      → T (lineTrue ρ (after n h .forms) (getD (after n h .lines) i noLine))
-  line-true h = good-line-true n (after n h) (good-after n h)
-
-  pub refuted-by : (h : List Record) (i : ℕ) → standing (after n h) ≡ refuted i
-      → (ρ : Integers) → T (premisesTrue ρ (after n h .forms) (after n h .lines)) → ⊥
-  refuted-by h = good-refuted n (after n h) (good-after n h)
-
   pub line-true-bytes : (h : List (List ℕ)) (i : ℕ) (ρ : Integers) → i < length (afterBytes n h .lines)
       → T (premisesTrue ρ (afterBytes n h .forms) (take (suc i) (afterBytes n h .lines)))
       → T (lineTrue ρ (afterBytes n h .forms) (getD (afterBytes n h .lines) i noLine))

@@ -7,12 +7,14 @@ use lib.ListN.{length}
 use Rattle.ledger.specs.Ledger.{Ledger, opened, withdrawn}
 use Rattle.ledger.specs.Record.{Record, make, OP, WD, Answer, accepted, refused, isAccepted}
 use Rattle.ledger.specs.Checks.{makes}
-use Rattle.ledger.specs.Apply.{Outcome, done, apply}
+use Rattle.ledger.specs.Apply.{done}
 use Rattle.ledger.specs.Bytes.{decode, applyBytes}
-use Rattle.ledger.specs.History.{afterBy, StaysOpen, ClosedLevel, after, afterBytes}
+use Rattle.ledger.specs.History.{afterBytes}
+use Rattle.ledger.specs.Kept.{StaysOpen, ClosedLevel}
 use Rattle.ledger.specs.Legal.{Marked}
+use Rattle.ledger.proofs.Findings.{bytes-refused}
 use Rattle.ledger.proofs.Withdrawal.{withdrawn-opened, withdrawn-add, withdrawn-levels, marks-add}
-use Rattle.ledger.proofs.InForce.{Lawful, marked-after, accepted-done, lawful-records, lawful-bytes}
+use Rattle.ledger.proofs.InForce.{when-accepted, marked-after, accepted-done}
 
 -- ---- unwinding: withdrawn as often as levels are open above a base, a ledger is that base
 
@@ -50,34 +52,26 @@ above-done base l WD h a p = go (a .more) (a .levels) (a .unwinds)
     go zero e u = absurd (omega (arith, withdrawn-levels l (omega arith)))
     go (suc d) e u = record { more = d; levels = omega (arith, withdrawn-levels l (omega arith)); unwinds = u }
 
-module _ {A : Type 0} (does : Ledger → A → Outcome) (says : A → Record) (law : Lawful does says) where
-  above-after : (h : List A) (o : A) → says o ≡ OP → isAccepted (does (afterBy does h) o .answer) → (xs : List A)
-      → StaysOpen does (length (afterBy does h .marks)) (o ∷ h) xs → Above (afterBy does h) (afterBy does (xs ++ (o ∷ h)))
-  unfolding afterBy StaysOpen done
-  above-after h o s t [] st = rw (accepted-done does says law (afterBy does h) o OP s t) (above-opened (afterBy does h))
-  above-after h o s t (x ∷ xs) st = go (does l x .answer) refl (above-after h o s t xs (st .1))
+module _ (n : ℕ) where
+  above-after : (h : List (List ℕ)) (o : List ℕ) → decode o ≡ OP → isAccepted (applyBytes n (afterBytes n h) o .answer) → (xs : List (List ℕ))
+      → StaysOpen n (length (afterBytes n h .marks)) (o ∷ h) xs → Above (afterBytes n h) (afterBytes n (xs ++ (o ∷ h)))
+  unfolding afterBytes StaysOpen done
+  above-after h o s t [] st = rw (accepted-done n (afterBytes n h) o OP s t) (above-opened (afterBytes n h))
+  above-after h o s t (x ∷ xs) st = go (applyBytes n l x .answer) refl (above-after h o s t xs (st .1))
     where
       l : Ledger
-      l = afterBy does (xs ++ (o ∷ h))
+      l = afterBytes n (xs ++ (o ∷ h))
 
-      go : (a : Answer) → does l x .answer ≡ a → Above (afterBy does h) l → Above (afterBy does h) (does l x .ledger)
+      go : (a : Answer) → applyBytes n l x .answer ≡ a → Above (afterBytes n h) l → Above (afterBytes n h) (applyBytes n l x .ledger)
       go (accepted m) e a =
-          let same = law .when-accepted l x m e in
-          rw same (above-done (afterBy does h) l (says x) (marked-after does says law (xs ++ (o ∷ h))) a (rw same at (st .0)))
-      go (refused k) e a = rw (law .when-refused l x k e) a
+          let same = when-accepted n l x m e in
+          rw same (above-done (afterBytes n h) l (decode x) (marked-after n (xs ++ (o ∷ h))) a (rw same at (st .0)))
+      go (refused k) e a = rw (bytes-refused n l x k e) a
 
-  pub restored-by : (h : List A) (o : A) (xs : List A) (w : A) → ClosedLevel does says h o xs w → afterBy does (w ∷ (xs ++ (o ∷ h))) ≡ afterBy does h
-  unfolding afterBy unwound done
-  restored-by h o xs w c =
-      let l = afterBy does (xs ++ (o ∷ h)) in
+  pub withdrawal-restores : (h : List (List ℕ)) (o : List ℕ) (xs : List (List ℕ)) (w : List ℕ) → ClosedLevel n h o xs w → afterBytes n (w ∷ (xs ++ (o ∷ h))) ≡ afterBytes n h
+  unfolding afterBytes unwound done
+  withdrawal-restores h o xs w c =
+      let l = afterBytes n (xs ++ (o ∷ h)) in
       let a = above-after h o (c .opens) (c .opening) xs (c .stays) in
       let none : a .more ≡ 0 = omega (arith, a .levels, c .last) in
-      accepted-done does says law l w WD (c .closes) (c .closing) ∙ (rw none at (a .unwinds))
-
-pub withdrawal-restores : (n : ℕ) (h : List Record) (o : Record) (xs : List Record) (w : Record)
-    → ClosedLevel (apply n) (λ r. r) h o xs w → after n (w ∷ (xs ++ (o ∷ h))) ≡ after n h
-withdrawal-restores n = restored-by (apply n) (λ r. r) (lawful-records n)
-
-pub bytes-withdrawal-restores : (n : ℕ) (h : List (List ℕ)) (o : List ℕ) (xs : List (List ℕ)) (w : List ℕ)
-    → ClosedLevel (applyBytes n) decode h o xs w → afterBytes n (w ∷ (xs ++ (o ∷ h))) ≡ afterBytes n h
-bytes-withdrawal-restores n = restored-by (applyBytes n) decode (lawful-bytes n)
+      accepted-done n l w WD (c .closes) (c .closing) ∙ (rw none at (a .unwinds))

@@ -15,7 +15,8 @@ use Rattle.ledger.specs.Checks.{countIn, checks}
 use Rattle.ledger.specs.Apply.{finding, Outcome, judged, apply, done, made}
 use Rattle.ledger.specs.Bytes.{Bearing, unknown, bears, markOf, bytesFor, countFrom, shapeOf, shape, decode, applyBytes}
 use Rattle.ledger.specs.Run.{frontBytes, front, split, recordsOf, Run, runFrom, run, fedAll, AllAccepted, Stops}
-use Rattle.ledger.specs.History.{afterBy, AcceptedBy, afterBytes, AcceptedBytes}
+use Rattle.ledger.specs.History.{afterBytes}
+use Rattle.ledger.specs.Kept.{AcceptedBytes}
 use Rattle.ledger.proofs.Findings.{noneBelow, judged-positive, by-checks}
 use Rattle.ledger.proofs.LayoutLaws.{two-letters}
 use Rattle.ledger.proofs.RuleLaws.{checks-numbered}
@@ -211,17 +212,17 @@ zero-at-end n l bs = (to-end, from-end)
 -- ---- histories
 
 fed-after : (n : ℕ) (h bs : List (List ℕ)) → fedAll n (afterBytes n h) bs ≡ afterBytes n (reverseAux bs h)
-unfolding fedAll afterBy
+unfolding fedAll afterBytes
 fed-after n h [] = refl
 fed-after n h (b ∷ bs) = fed-after n (b ∷ h) bs
 
 -- what is fed to a fresh ledger is a history, which has the latest first
 pub fed-is-history : (n : ℕ) (bs : List (List ℕ)) → fedAll n fresh bs ≡ afterBytes n (reverse bs)
-unfolding afterBy
+unfolding afterBytes
 fed-is-history n bs = fed-after n [] bs
 
 -- a history that was accepted, fed from its first record on
 pub accepted-back : (n : ℕ) (h bs : List (List ℕ)) → AcceptedBytes n (reverseAux bs h) → AllAccepted n (afterBytes n h) bs × AcceptedBytes n h
-unfolding AllAccepted AcceptedBy afterBy
+unfolding AllAccepted AcceptedBytes afterBytes
 accepted-back n h [] a = (tt, a)
 accepted-back n h (b ∷ bs) a = let (rest, (first, before)) = accepted-back n (b ∷ h) bs a in ((first, rest), before)

@@ -1,82 +1,68 @@
--- What was fed since the start, records or bytes, and which of it is still in force. A history has the latest first.
+-- What was fed since the start, as bytes, and which of it is still in force: an accepted WD strikes out itself, the last OP not yet struck
+-- out and every record between them; a refused record is struck out; what remains, open OPs included, is in force.
+-- A history has the latest first. A record's position is the number of records that were fed before it.
 use mathlib.Core.Path.{_≡_}
-use mathlib.Core.List.{List, [], _∷_, _++_}
-use Prim.Native.Nat.{ℕ, _+_, _<_}
+use mathlib.Core.Logic.{_⊎_}
+use mathlib.Core.List.{List, [], _∷_}
+use Prim.Native.Nat.{ℕ, suc, _≤_, _<_}
 use lib.ListN.{length}
 use Rattle.ledger.specs.Ledger.{Ledger, fresh}
-use Rattle.ledger.specs.Record.{Record, make, OP, WD, Answer, accepted, refused, isAccepted}
-use Rattle.ledger.specs.Apply.{Outcome, apply}
+use Rattle.ledger.specs.Record.{make, OP, WD, isAccepted}
 use Rattle.ledger.specs.Bytes.{decode, applyBytes}
 
--- ---- in force: `says` is the record that an item of the history is
+-- the ledger that a history leaves, over n unknowns
+unfoldable pub afterBytes : ℕ → List (List ℕ) → Ledger
+afterBytes n [] = fresh
+afterBytes n (b ∷ h) = applyBytes n (afterBytes n h) b .ledger
 
-module _ {A : Type 0} (says : A → Record) where
-  -- without the last OP and every record after it
-  abbrev pub strike : List A → List A
-  strike [] = []
-  strike (x ∷ xs) = elim (says x) [ make r ↦ strike xs | OP ↦ xs | WD ↦ strike xs ]
+-- b, fed after h, is accepted
+abbrev pub AcceptedAfter : ℕ → List (List ℕ) → List ℕ → Type 0
+AcceptedAfter n h b = isAccepted (applyBytes n (afterBytes n h) b .answer)
 
-  -- an accepted WD strikes out itself, the last OP in force and what lies between them
-  abbrev pub entered : A → List A → List A
-  entered x xs = elim (says x) [ make r ↦ x ∷ xs | OP ↦ x ∷ xs | WD ↦ strike xs ]
+-- ---- struck out
 
+-- the record at position k is an OP
+unfoldable pub OpAt : List (List ℕ) → ℕ → Type 0
+OpAt [] k = ⊥
+OpAt (b ∷ h) k = ((k ≡ length h) × (decode b ≡ OP)) ⊎ OpAt h k
+
+-- at position o is the last OP not yet struck out
+pub record LastOp (Struck : ℕ → Type 0) (h : List (List ℕ)) (o : ℕ) : Type 0 where
+  pub opens : OpAt h o
+  pub stands : Struck o → ⊥
+  pub last : (p : ℕ) → o < p → OpAt h p → Struck p
+
+-- position k is struck out as b is fed after h, of which these are struck out already
+pub data StrikesOut (n : ℕ) (Struck : ℕ → Type 0) (h : List (List ℕ)) (b : List ℕ) (k : ℕ) : Type 0 where
   -- a refused record is struck out
-  abbrev pub kept : Answer → A → List A → List A
-  kept (accepted m) x xs = entered x xs
-  kept (refused n) x xs = xs
+  refusal : (AcceptedAfter n h b → ⊥) → k ≡ length h → StrikesOut n Struck h b k
+  -- an accepted WD strikes out itself, the last OP not yet struck out and every record between them
+  withdrawal : AcceptedAfter n h b → decode b ≡ WD → (o : ℕ) → LastOp Struck h o → o ≤ k → k ≤ length h → StrikesOut n Struck h b k
 
--- ---- histories: `does` is what an item does to a ledger
+-- position k is struck out: before the latest record was fed, or as it was
+unfoldable pub StruckOut : ℕ → List (List ℕ) → ℕ → Type 0
+StruckOut n [] k = ⊥
+StruckOut n (b ∷ h) k = StruckOut n h k ⊎ StrikesOut n (StruckOut n h) h b k
 
-module _ {A : Type 0} (does : Ledger → A → Outcome) where
-  -- the ledger that a history leaves
-  unfoldable pub afterBy : List A → Ledger
-  afterBy [] = fresh
-  afterBy (x ∷ xs) = does (afterBy xs) x .ledger
+-- ---- in force
 
-  -- every item of a history was accepted
-  unfoldable pub AcceptedBy : List A → Type 0
-  unfolding afterBy
-  AcceptedBy [] = Unit {0}
-  AcceptedBy (x ∷ xs) = isAccepted (does (afterBy xs) x .answer) × AcceptedBy xs
+-- ks is what remains of h, in its order, without the struck positions
+pub data Remains (Struck : ℕ → Type 0) : List (List ℕ) → List (List ℕ) → Type 0 where
+  none : Remains Struck [] []
+  goes : {x : List ℕ} {h ks : List (List ℕ)} → Struck (length h) → Remains Struck h ks → Remains Struck (x ∷ h) ks
+  stays : {x : List ℕ} {h ks : List (List ℕ)} → (Struck (length h) → ⊥) → Remains Struck h ks → Remains Struck (x ∷ h) (x ∷ ks)
 
-  -- the items that are still in force
-  unfoldable pub inForceBy : (A → Record) → List A → List A
-  unfolding afterBy
-  inForceBy says [] = []
-  inForceBy says (x ∷ xs) = kept says (does (afterBy xs) x .answer) x (inForceBy says xs)
+abbrev pub InForce : ℕ → List (List ℕ) → List (List ℕ) → Type 0
+InForce n h ks = Remains (StruckOut n h) h ks
 
--- ---- a level from its OP to its WD
+-- ---- what is in force, looked at
 
--- more than k levels are open after each of xs, the latest first, fed after h
-unfoldable pub StaysOpen : {A : Type 0} (does : Ledger → A → Outcome) → ℕ → List A → List A → Type 0
-StaysOpen does k h [] = Unit {0}
-StaysOpen does k h (x ∷ xs) = (k < length (afterBy does (x ∷ (xs ++ h)) .marks)) × StaysOpen does k h xs
+-- how many OPs there are
+unfoldable pub opCount : List (List ℕ) → ℕ
+opCount [] = 0
+opCount (b ∷ bs) = elim (decode b) [ make r ↦ opCount bs | OP ↦ suc (opCount bs) | WD ↦ opCount bs ]
 
--- o opens a level after h, it stays open through xs and is then the last, and w closes it
-pub record ClosedLevel {A : Type 0} (does : Ledger → A → Outcome) (says : A → Record) (h : List A) (o : A) (xs : List A) (w : A) : Type 0 where
-  pub opens : says o ≡ OP
-  pub opening : isAccepted (does (afterBy does h) o .answer)
-  pub stays : StaysOpen does (length (afterBy does h .marks)) (o ∷ h) xs
-  pub last : length (afterBy does (xs ++ (o ∷ h)) .marks) ≡ length (afterBy does h .marks) + 1
-  pub closes : says w ≡ WD
-  pub closing : isAccepted (does (afterBy does (xs ++ (o ∷ h))) w .answer)
-
--- ---- of records, and of byte strings
-
-abbrev pub after : ℕ → List Record → Ledger
-after n = afterBy (apply n)
-
-abbrev pub Accepted : ℕ → List Record → Type 0
-Accepted n = AcceptedBy (apply n)
-
-abbrev pub inForce : ℕ → List Record → List Record
-inForce n = inForceBy (apply n) (λ r. r)
-
-abbrev pub afterBytes : ℕ → List (List ℕ) → Ledger
-afterBytes n = afterBy (applyBytes n)
-
-abbrev pub AcceptedBytes : ℕ → List (List ℕ) → Type 0
-AcceptedBytes n = AcceptedBy (applyBytes n)
-
-abbrev pub bytesInForce : ℕ → List (List ℕ) → List (List ℕ)
-bytesInForce n = inForceBy (applyBytes n) decode
+-- none is a WD
+unfoldable pub NoWD : List (List ℕ) → Type 0
+NoWD [] = Unit {0}
+NoWD (b ∷ bs) = (decode b ≡ WD → ⊥) × NoWD bs

@@ -8,5 +8,7 @@ pub mod Bytes
 pub mod Run
 pub mod Truth
 pub mod History
+pub mod Kept
+pub mod Carried
 pub mod Legal
 pub mod Examples

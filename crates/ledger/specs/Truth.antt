@@ -1,6 +1,6 @@
 -- What literals and lines say of whole numbers for the unknowns, of which there may be any number.
 use mathlib.Core.Bool.{Bool, not, _||_, cond}
-use mathlib.Core.List.{List}
+use mathlib.Core.List.{List, [], _∷_, flatMap}
 use Prim.Native.Nat.{ℕ}
 use lib.Dec.{eqb}
 use lib.ListN.{getD}
@@ -31,3 +31,7 @@ asPremise ρ fs x = not (eqb (x .origin) premise) || lineTrue ρ fs x
 -- all premises among the lines are true
 abbrev pub premisesTrue : Integers → List Form → List Line → Bool
 premisesTrue ρ fs ls = all (asPremise ρ fs) ls
+
+-- the literal lists of the premises among lines, in their order
+unfoldable pub premiseLists : List Line → List (List ℕ)
+premiseLists ls = flatMap (λ x. cond (eqb (x .origin) premise) (x .literals ∷ []) []) ls

@@ -12,7 +12,7 @@ use Rattle.ledger.specs.Checks.{Passed, checks, makes}
 use Rattle.ledger.specs.Apply.{Outcome, done, apply}
 use Rattle.ledger.specs.Bytes.{decode, applyBytes}
 use Rattle.ledger.specs.History.{strike, entered, kept, afterBy, AcceptedBy, inForceBy}
-use Rattle.ledger.specs.History.{after, Accepted, inForce, afterBytes, AcceptedBytes, bytesInForce}
+use Rattle.ledger.specs.History.{afterBytes, AcceptedBytes, bytesInForce}
 use Rattle.ledger.proofs.Findings.{apply-accepted, apply-refused, bytes-accepted, bytes-refused}
 use Rattle.ledger.specs.Legal.{Marked}
 use Rattle.ledger.proofs.Withdrawal.{withdrawn-opened, withdrawn-add, marks-add, marked-done}
@@ -129,9 +129,6 @@ lawful-records n =
       when-accepted = λ l r m e. apply-accepted n l r m e .1;
       level-open = λ l r m e s. passed-level n l (rw s at (apply-accepted n l r m e .0));
     }
-
-pub in-force : (n : ℕ) (h : List Record) → (after n (inForce n h) ≡ after n h) × Accepted n (inForce n h)
-in-force n = in-force-by (apply n) (λ r. r) (lawful-records n)
 
 -- ---- bytes
 

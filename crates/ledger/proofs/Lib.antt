@@ -5,6 +5,7 @@ pub mod Restored
 pub mod LiteralLaws
 pub mod TruthLaws
 pub mod LayoutLaws
+pub mod Brought
 pub mod RuleLaws
 pub mod StandingLaws
 pub mod LegalLaws

@@ -7,12 +7,12 @@ use lib.ListN.{length}
 use Rattle.ledger.specs.Ledger.{Ledger, opened, withdrawn}
 use Rattle.ledger.specs.Record.{Record, make, OP, WD, Answer, accepted, refused, isAccepted}
 use Rattle.ledger.specs.Checks.{makes}
-use Rattle.ledger.specs.Apply.{Outcome, done, apply}
+use Rattle.ledger.specs.Apply.{Outcome, done}
 use Rattle.ledger.specs.Bytes.{decode, applyBytes}
-use Rattle.ledger.specs.History.{afterBy, StaysOpen, ClosedLevel, after, afterBytes}
+use Rattle.ledger.specs.History.{afterBy, StaysOpen, ClosedLevel, afterBytes}
 use Rattle.ledger.specs.Legal.{Marked}
 use Rattle.ledger.proofs.Withdrawal.{withdrawn-opened, withdrawn-add, withdrawn-levels, marks-add}
-use Rattle.ledger.proofs.InForce.{Lawful, marked-after, accepted-done, lawful-records, lawful-bytes}
+use Rattle.ledger.proofs.InForce.{Lawful, marked-after, accepted-done, lawful-bytes}
 
 -- ---- unwinding: withdrawn as often as levels are open above a base, a ledger is that base
 
@@ -73,10 +73,6 @@ module _ {A : Type 0} (does : Ledger → A → Outcome) (says : A → Record) (l
       let a = above-after h o (c .opens) (c .opening) xs (c .stays) in
       let none : a .more ≡ 0 = omega (arith, a .levels, c .last) in
       accepted-done does says law l w WD (c .closes) (c .closing) ∙ (rw none at (a .unwinds))
-
-pub withdrawal-restores : (n : ℕ) (h : List Record) (o : Record) (xs : List Record) (w : Record)
-    → ClosedLevel (apply n) (λ r. r) h o xs w → after n (w ∷ (xs ++ (o ∷ h))) ≡ after n h
-withdrawal-restores n = restored-by (apply n) (λ r. r) (lawful-records n)
 
 pub bytes-withdrawal-restores : (n : ℕ) (h : List (List ℕ)) (o : List ℕ) (xs : List (List ℕ)) (w : List ℕ)
     → ClosedLevel (applyBytes n) decode h o xs w → afterBytes n (w ∷ (xs ++ (o ∷ h))) ≡ afterBytes n h

@@ -1,11 +1,11 @@
--- What was fed since the start, records or bytes, and which of it is still in force. A history has the latest first.
+-- What was fed since the start, and which of it is still in force. A history has the latest first.
 use mathlib.Core.Path.{_≡_}
 use mathlib.Core.List.{List, [], _∷_, _++_}
 use Prim.Native.Nat.{ℕ, _+_, _<_}
 use lib.ListN.{length}
 use Rattle.ledger.specs.Ledger.{Ledger, fresh}
 use Rattle.ledger.specs.Record.{Record, make, OP, WD, Answer, accepted, refused, isAccepted}
-use Rattle.ledger.specs.Apply.{Outcome, apply}
+use Rattle.ledger.specs.Apply.{Outcome}
 use Rattle.ledger.specs.Bytes.{decode, applyBytes}
 
 -- ---- in force: `says` is the record that an item of the history is
@@ -61,16 +61,7 @@ pub record ClosedLevel {A : Type 0} (does : Ledger → A → Outcome) (says : A 
   pub closes : says w ≡ WD
   pub closing : isAccepted (does (afterBy does (xs ++ (o ∷ h))) w .answer)
 
--- ---- of records, and of byte strings
-
-abbrev pub after : ℕ → List Record → Ledger
-after n = afterBy (apply n)
-
-abbrev pub Accepted : ℕ → List Record → Type 0
-Accepted n = AcceptedBy (apply n)
-
-abbrev pub inForce : ℕ → List Record → List Record
-inForce n = inForceBy (apply n) (λ r. r)
+-- ---- of byte strings
 
 abbrev pub afterBytes : ℕ → List (List ℕ) → Ledger
 afterBytes n = afterBy (applyBytes n)

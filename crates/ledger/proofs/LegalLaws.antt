@@ -1,4 +1,4 @@
--- Every accepted record keeps a ledger legal, so that every history of records or of bytes leaves a legal one.
+-- Every accepted record of good shape keeps a ledger legal, so that every history of bytes leaves a legal one.
 use mathlib.Core.Path.{_≡_}
 use mathlib.Core.Bool.{and-true}
 use mathlib.Core.List.{List, [], _∷_, _++_}
@@ -24,6 +24,7 @@ use Rattle.ledger.specs.History.{afterBytes}
 use Rattle.ledger.specs.Legal.{lineBelow, LegalLine, MarksIn, Named, Legal}
 use Rattle.ledger.proofs.Findings.{passed-front, passed-back, judged-keeps, apply-keeps}
 use Rattle.ledger.proofs.Withdrawal.{marked-add, marked-done}
+use Rattle.ledger.proofs.Brought.{Brought, brought}
 use Rattle.ledger.proofs.RuleLaws.{LegalNew, owed}
 
 pub literals-append : (ls ks : List Line) → literalCount (ls ++ ks) ≡ literalCount ls + literalCount ks
@@ -156,20 +157,20 @@ legal-withdrawn n l g = legal-back n (l .forms) (l .lines) (l .marks) g
 
 -- ---- records, bytes, histories
 
-pub legal-done : (n : ℕ) (l : Ledger) (r : Record) → Legal n l → Passed (checks n l r) → Legal n (done l r)
+pub legal-done : (n : ℕ) (l : Ledger) (r : Record) → Brought r → Legal n l → Passed (checks n l r) → Legal n (done l r)
 unfolding done checks
-legal-done n l (make r) g p =
+legal-done n l (make r) few g p =
     let ts = tests n (l .forms) (l .lines) r in
-    legal-add n l (makes (l .lines) r) g (passed-back ts _ p) (owed n (l .forms) (l .lines) (g .each) r (passed-front ts _ p) .legal)
-legal-done n l OP g p = legal-opened n l g (ltb→lt (length (l .marks)) mostLevels (p .0))
-legal-done n l WD g p = legal-withdrawn n l g
+    legal-add n l (makes (l .lines) r) g (passed-back ts _ p) (owed n (l .forms) (l .lines) (g .each) r few (passed-front ts _ p) .legal)
+legal-done n l OP few g p = legal-opened n l g (ltb→lt (length (l .marks)) mostLevels (p .0))
+legal-done n l WD few g p = legal-withdrawn n l g
 
-pub legal-apply : (n : ℕ) (l : Ledger) (r : Record) → Legal n l → Legal n (apply n l r .ledger)
-legal-apply n l r g = apply-keeps (Legal n) n l r g (legal-done n l r g)
+pub legal-apply : (n : ℕ) (l : Ledger) (r : Record) → Brought r → Legal n l → Legal n (apply n l r .ledger)
+legal-apply n l r few g = apply-keeps (Legal n) n l r g (legal-done n l r few g)
 
 pub legal-applyBytes : (n : ℕ) (l : Ledger) (b : List ℕ) → Legal n l → Legal n (applyBytes n l b .ledger)
 unfolding applyBytes
-legal-applyBytes n l b g = judged-keeps (Legal n) (shape b) l (apply n l (decode b)) g (λ _. legal-apply n l (decode b) g)
+legal-applyBytes n l b g = judged-keeps (Legal n) (shape b) l (apply n l (decode b)) g (λ p. legal-apply n l (decode b) (brought b p) g)
 
 pub legal-fresh : (n : ℕ) → Legal n fresh
 legal-fresh n =

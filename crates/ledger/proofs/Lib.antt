@@ -6,6 +6,7 @@ pub mod StruckOut
 pub mod LiteralLaws
 pub mod TruthLaws
 pub mod LayoutLaws
+pub mod Brought
 pub mod RuleLaws
 pub mod StandingLaws
 pub mod LegalLaws

@@ -1,5 +1,5 @@
 -- Every line in force is true wherever the premises up to it are, so that an empty one refutes the premises.
--- That is an invariant of ledgers, which each record keeps, and so every history of records or of bytes has it.
+-- That is an invariant of ledgers, which each record of good shape keeps, and so every history of bytes has it.
 use mathlib.Core.Path.{_≡_, sym}
 use mathlib.Core.Bool.{and-true}
 use mathlib.Core.List.{List, [], _∷_, _++_}
@@ -28,6 +28,7 @@ use Rattle.ledger.proofs.TruthLaws.{Agree, lines-agree, premises-agree}
 use Rattle.ledger.proofs.Findings.{passed-front, judged-keeps, apply-keeps}
 use Rattle.ledger.proofs.LegalLaws.{named-all, legal-done, legal-fresh}
 use Rattle.ledger.proofs.StandingLaws.{standing-lowest}
+use Rattle.ledger.proofs.Brought.{Brought, brought}
 use Rattle.ledger.proofs.RuleLaws.{Owed, owed}
 
 -- ---- the invariant
@@ -96,20 +97,20 @@ sound-back n fs ls (m ∷ ms) g =
     sound-agree fs (take (m .forms) fs) (m .forms) (take (m .lines) ls) (λ i h. sym (getD-take (m .forms) fs i noForm h))
     (named-all (m .forms) (take (m .lines) ls) ms (g .legal .named .1)) (sound-take fs ls (m .lines) (g .sound))
 
-sound-done : (n : ℕ) (l : Ledger) (r : Record) → Passed (checks n l r) → Good n l → Sound (done l r .forms) (done l r .lines)
+sound-done : (n : ℕ) (l : Ledger) (r : Record) → Brought r → Passed (checks n l r) → Good n l → Sound (done l r .forms) (done l r .lines)
 unfolding done checks opened withdrawn
-sound-done n l (make r) p g =
+sound-done n l (make r) few p g =
     let ts = tests n (l .forms) (l .lines) r in
-    sound-add n l (parents r) (makes (l .lines) r) g (owed n (l .forms) (l .lines) (g .legal .each) r (passed-front ts _ p))
-sound-done n l OP p g = g .sound
-sound-done n l WD p g = sound-back n (l .forms) (l .lines) (l .marks) g
+    sound-add n l (parents r) (makes (l .lines) r) g (owed n (l .forms) (l .lines) (g .legal .each) r few (passed-front ts _ p))
+sound-done n l OP few p g = g .sound
+sound-done n l WD few p g = sound-back n (l .forms) (l .lines) (l .marks) g
 
-pub good-apply : (n : ℕ) (l : Ledger) (r : Record) → Good n l → Good n (apply n l r .ledger)
-good-apply n l r g = apply-keeps (Good n) n l r g (λ p. record { legal = legal-done n l r (g .legal) p; sound = sound-done n l r p g })
+pub good-apply : (n : ℕ) (l : Ledger) (r : Record) → Brought r → Good n l → Good n (apply n l r .ledger)
+good-apply n l r few g = apply-keeps (Good n) n l r g (λ p. record { legal = legal-done n l r few (g .legal) p; sound = sound-done n l r few p g })
 
 pub good-applyBytes : (n : ℕ) (l : Ledger) (b : List ℕ) → Good n l → Good n (applyBytes n l b .ledger)
 unfolding applyBytes
-good-applyBytes n l b g = judged-keeps (Good n) (shape b) l (apply n l (decode b)) g (λ p. good-apply n l (decode b) g)
+good-applyBytes n l b g = judged-keeps (Good n) (shape b) l (apply n l (decode b)) g (λ p. good-apply n l (decode b) (brought b p) g)
 
 -- ---- histories
 

@@ -19,13 +19,13 @@ use Rattle.rows.proofs.Sound.{totality, trichotomy, equation, weakening, tighte
 use Rattle.ledger.specs.Limits.{longestLine}
 use Rattle.ledger.specs.Literals.{unnegated, negated, ascending, lineOf, without, below}
 use Rattle.ledger.specs.Ledger.{Line, noLine, nthForm, nthLine, Ledger, New, newForm, newLine}
-use Rattle.ledger.specs.Record.{Rule, FM, PM, RS, FK, TO, TR, EQ, TI, WK, CL, Record, make, OP, WD, pm, fk, cl, ofRule}
+use Rattle.ledger.specs.Record.{Rule, FM, PM, RS, FK, TO, TR, EQ, TI, WK, CL, Record, make, OP, WD}
 use Rattle.ledger.specs.Checks.{formIn, lineIn, formsOf, firstDivisor, resolvent, derivedLine, makes, parents, tests, checks, Passed}
 use Rattle.ledger.specs.Legal.{LegalLine}
 use Rattle.ledger.specs.Truth.{literalTrue, lineTrue, chosenTrue, asPremise}
 use Rattle.ints.proofs.Lists.{all-map, any-map}
 use Rattle.ledger.proofs.Findings.{noneBelow}
-use Rattle.ledger.proofs.LayoutLaws.{count-most}
+use Rattle.ledger.proofs.Brought.{Brought}
 use Rattle.ledger.proofs.LiteralLaws.{any-joined, any-lineOf, any-without, all-joined, all-lineOf, all-without}
 use Rattle.ledger.proofs.LiteralLaws.{ascending-joined, ascending-lineOf, ascending-without, ascending-negated, length-lineOf}
 use Rattle.ledger.proofs.TruthLaws.{unnegated-names, negated-names, unnegated-true, negated-true}
@@ -142,38 +142,38 @@ module _ (n : ℕ) (fs : List Form) (ls : List Line) where
           (rw (any-without (literalTrue ρ fs) (unnegated p) (nthLine ls i) (unnegated-true ρ fs p ∙ e)) u)
 
 module _ (n : ℕ) (fs : List Form) (ls : List Line) (each : LegalLines (length fs) ls) where
-  pub owed : (r : Rule) → Passed (tests n fs ls r) → Owed n fs ls (parents r) (makes ls r)
+  pub owed : (r : Rule) → Brought (make r) → Passed (tests n fs ls r) → Owed n fs ls (parents r) (makes ls r)
   unfolding makes tests
-  owed (FM f) (content, _) = record { legal = content; parents = tt; holds = λ ρ _. tt }
-  owed (PM xs) (count, (names, (ascends, _))) =
+  owed (FM f) few (content, _) = record { legal = content; parents = tt; holds = λ ρ _. tt }
+  owed (PM xs) few (names, (ascends, _)) =
       record {
-        legal = record { origin = tt; short = count-most (ofRule pm) (length xs) count; ascends = ascends; names = names };
+        legal = record { origin = tt; short = few; ascends = ascends; names = names };
         parents = tt;
         holds = λ ρ _ p. p;
       }
-  owed (RS p i j) (_, (iIn, (jIn, (_, (_, (short, _)))))) = resolvent-owed n fs ls p i j iIn jIn short each
-  owed (FK ts) (count, (names, (ascends, (kinds, (multipliers, (sum, _)))))) =
-      negated-owed n fs ls ts (count-most (ofRule fk) (length ts) count) names ascends (λ ρ. farkas-sound ρ n (nthForm fs) ts kinds multipliers sum)
-  owed (TO a b) (aIn, (bIn, (ka, (kb, (row, _))))) =
+  owed (RS p i j) few (_, (iIn, (jIn, (_, (_, (short, _)))))) = resolvent-owed n fs ls p i j iIn jIn short each
+  owed (FK ts) few (names, (ascends, (kinds, (multipliers, (sum, _))))) =
+      negated-owed n fs ls ts few names ascends (λ ρ. farkas-sound ρ n (nthForm fs) ts kinds multipliers sum)
+  owed (TO a b) few (aIn, (bIn, (ka, (kb, (row, _))))) =
       pair-owed n fs ls (unnegated a) (unnegated b) (rw unnegated-names aIn) (rw unnegated-names bIn)
       (λ ρ. simp unnegated-true (totality ρ (nthForm fs a) (nthForm fs b) ka kb row))
-  owed (TR z u v) (zIn, (uIn, (vIn, (kz, (ku, (kv, (more, (less, _)))))))) =
+  owed (TR z u v) few (zIn, (uIn, (vIn, (kz, (ku, (kv, (more, (less, _)))))))) =
       let b = formIn fs in
       let names = and-T (b z) (b u && (b v && true)) zIn (and-T (b u) (b v && true) uIn (and-T (b v) true vIn tt)) in
       line-owed n fs ls (unnegated z ∷ unnegated u ∷ unnegated v ∷ []) (omega arith) (simp unnegated-names names)
       (λ ρ. simp (unnegated-true, or-false) (trichotomy ρ (nthForm fs z) (nthForm fs u) (nthForm fs v) kz ku kv more less))
-  owed (EQ z a) (zIn, (aIn, (kz, (ka, (row, _))))) =
+  owed (EQ z a) few (zIn, (aIn, (kz, (ka, (row, _))))) =
       pair-owed n fs ls (negated z) (unnegated a) (rw negated-names zIn) (rw unnegated-names aIn)
       (λ ρ. simp (unnegated-true, negated-true) (equation ρ (nthForm fs z) (nthForm fs a) kz ka row))
-  owed (TI a b c) (aIn, (bIn, (ka, (kb, (range, (row, _)))))) =
+  owed (TI a b c) few (aIn, (bIn, (ka, (kb, (range, (row, _)))))) =
       let (positive, _) = T-and (leZ (pos 1) c) (leZ c (pos largestMultiplier)) range in
       pair-owed n fs ls (negated a) (unnegated b) (rw negated-names aIn) (rw unnegated-names bIn)
       (λ ρ. simp (unnegated-true, negated-true) (tightening ρ c (nthForm fs a) (nthForm fs b) ka kb positive row))
-  owed (WK z g) (zIn, (gIn, (kz, (kg, (row, _))))) =
+  owed (WK z g) few (zIn, (gIn, (kz, (kg, (row, _))))) =
       pair-owed n fs ls (negated z) (unnegated g) (rw negated-names zIn) (rw unnegated-names gIn)
       (λ ρ. simp (unnegated-true, negated-true) (weakening ρ (nthForm fs z) (nthForm fs g) kz kg row))
-  owed (CL ts) (count, (names, (ascends, (kinds, (_, (divisors, (sum, _))))))) =
-      negated-owed n fs ls ts (count-most (ofRule cl) (length ts) count) names ascends
+  owed (CL ts) few (names, (ascends, (kinds, (_, (divisors, (sum, _)))))) =
+      negated-owed n fs ls ts few names ascends
       (λ ρ. clash-sound ρ n (nthForm fs) ts (firstDivisor fs ts) kinds divisors sum)
 
 -- ---- the numbers of the tests: 3 and below belong to the sizes, the order and the shape

@@ -1,5 +1,4 @@
 -- The tests of a record, each with the number that it refuses with, in the order in which they are made: 6, 8, 9, 10, 11, 12, 13, 7.
--- A list that is longer than any record can bring is refused with 5, as its bytes would be.
 use mathlib.Core.Bool.{Bool, _&&_, _||_}
 use mathlib.Core.List.{List, [], _∷_, _++_, map}
 use Prim.Native.Nat.{ℕ, _+_}
@@ -14,7 +13,7 @@ use Rattle.rows.specs.Conditions.{sameRow, isOneMinus, isOneMore, isEither, tig
 use Rattle.ledger.specs.Limits.{mostForms, mostLines, mostLiterals, mostLevels, longestLine}
 use Rattle.ledger.specs.Literals.{unnegated, negated, formNamed, ascending, holds, joined, lineOf, without}
 use Rattle.ledger.specs.Ledger.{Line, premise, derived, Ledger, nthForm, nthRow, nthLine, literalCount, New, newForm, newLine}
-use Rattle.ledger.specs.Record.{Rule, FM, PM, RS, FK, TO, TR, EQ, TI, WK, CL, Record, make, OP, WD, pm, fk, cl, RecordMark, ofRule, layout}
+use Rattle.ledger.specs.Record.{Rule, FM, PM, RS, FK, TO, TR, EQ, TI, WK, CL, Record, make, OP, WD, RecordMark, layout}
 
 -- a test, and the refusal's number where it fails
 pub record Check : Type 0 where
@@ -96,7 +95,7 @@ parents (CL ts) = []
 
 unfoldable pub tests : ℕ → List Form → List Line → Rule → List Check
 tests n fs ls (FM f) = (legal n f else 6) ∷ []
-tests n fs ls (PM xs) = (countIn (ofRule pm) (length xs) else 5) ∷ (all (literalIn fs) xs else 8) ∷ (ascending xs else 9) ∷ []
+tests n fs ls (PM xs) = (all (literalIn fs) xs else 8) ∷ (ascending xs else 9) ∷ []
 tests n fs ls (RS p i j) =
     (formIn fs p else 8)
     ∷ (lineIn ls i else 8)
@@ -106,8 +105,7 @@ tests n fs ls (RS p i j) =
     ∷ (leb (length (resolvent ls p i j)) longestLine else 12)
     ∷ []
 tests n fs ls (FK ts) =
-    (countIn (ofRule fk) (length ts) else 5)
-    ∷ (all (formIn fs) (formsOf ts) else 8)
+    (all (formIn fs) (formsOf ts) else 8)
     ∷ (ascending (formsOf ts) else 9)
     ∷ (all (λ t. isKind fs atMost (t .form) || isKind fs isZero (t .form)) ts else 10)
     ∷ (all (λ t. legalMultiplier (nthForm fs (t .form) .kind) (t .multiplier)) ts else 10)
@@ -130,8 +128,7 @@ tests n fs ls (TI a b c) =
     ++ ((between (pos 1) (pos largestMultiplier) c else 10) ∷ (tightens c (nthRow fs a) (nthRow fs b) else 11) ∷ [])
 tests n fs ls (WK z g) = bothAre fs isZero z isDivided g ++ ((sameRow (nthRow fs z) (nthRow fs g) else 11) ∷ [])
 tests n fs ls (CL ts) =
-    (countIn (ofRule cl) (length ts) else 5)
-    ∷ (all (formIn fs) (formsOf ts) else 8)
+    (all (formIn fs) (formsOf ts) else 8)
     ∷ (ascending (formsOf ts) else 9)
     ∷ (all (λ t. isKind fs isDivided (t .form)) ts else 10)
     ∷ (all (λ t. legalMultiplier (nthForm fs (t .form) .kind) (t .multiplier)) ts else 10)

@@ -3,7 +3,7 @@ use mathlib.Core.Path.{_≡_, sym, ap, ap₂, _∙_}
 use mathlib.Core.Bool.{Bool, true, false}
 use mathlib.Core.List.{List}
 use Prim.Native.Nat.{ℕ, _≤_, _<_}
-use borrow.Author.Tests.{lt-ltb, le-ltb, le-leb}
+use borrow.Author.Tests.{lt-ltb, le-ltb}
 use lib.IntN.{ℤ}
 use lib.ListN.{length}
 use mir.Syntax.{w32}
@@ -14,8 +14,7 @@ use Rattle.rows.specs.Row.{Row}
 use Rattle.rows.specs.Form.{Form, formAt, rowAt}
 use Rattle.ledger.specs.Literals.{namesBelow}
 use Rattle.ledger.specs.Ledger.{nthRow}
-use Rattle.ledger.specs.Record.{RecordMark, layout}
-use Rattle.ledger.specs.Checks.{formIn, literalIn, isKind, countIn}
+use Rattle.ledger.specs.Checks.{formIn, literalIn, isKind}
 use Rattle.rules.specs.Read.{FormsHeld, formsIn}
 use Rattle.rules.proofs.HeldLaws.{form-count, form-is}
 
@@ -31,9 +30,6 @@ pub record RowsRead {n many : ℕ} {cells : List ℤ} (h : FormsHeld n many cell
   pub first : f < many
   pub second : g < many
   pub gave : r ≡ test (rowAt n cells f) (rowAt n cells g)
-
-pub count-in : (m : RecordMark) (k : ℕ) → layout m .least ≤ k → k ≤ layout m .most → countIn m k ≡ true
-count-in m k low high = rw (le-leb (layout m .least) k low, le-leb k (layout m .most) high)
 
 -- a test of the forms that literals name gave r
 pub literals-in : (fs : List Form) {many : ℕ} → length fs ≡ many → (xs : List ℕ) {r : Bool} → r ≡ namesBelow many xs → all (literalIn fs) xs ≡ r

@@ -1,7 +1,6 @@
 // What the office enters: forms (FM), and premises (PM), whose literals name forms in force and ascend.
 ghost use mathlib.Core.Path.{_≡_};
 ghost use mathlib.Core.List.{List, []};
-ghost use Prim.Native.Nat.{_≤_};
 ghost use lib.ListN.{length};
 ghost use Rattle.rows.specs.Limits.{unknowns};
 ghost use Rattle.rows.specs.Form.{Form};
@@ -32,7 +31,6 @@ pub fn form(bytes: &[u8], cells: &mut [i32]) -> Proposal
 }
 
 fn judge_premise(count: u16, literals: &[u16]) -> Verdict
-    requires { ⌜ length (now literals) ≤ longestLine ⌝ }
     ensures { λ r. ⌜ ((fs : List Form) → length fs ≡ count → findingOf r ≡ finding (tests unknowns fs [] (PM (now (literals .entry))))) ⌝ }
 {
     if !literals::tests::all_name_below(literals, count) {

@@ -72,6 +72,6 @@ module _ {b : List ℕ} {k : ℕ} {forms : List ℕ} {multipliers : List ℤ} (e
     lent-few = omega (arith, form-length, e .few)
 
 -- where the tests of a sum pass, its forms are in force
-pub sum-in-force : (fs : List Form) (ts : List Term) (c : Check) (cs : List Check) {v : Finding}
-    → v ≡ finding (c ∷ (all (formIn fs) (formsOf ts) else 8) ∷ cs) → v ≡ pass → T (all (formIn fs) (formsOf ts))
-sum-in-force fs ts c cs e p = pass→passed (c ∷ (all (formIn fs) (formsOf ts) else 8) ∷ cs) (sym e ∙ p) .1 .0
+pub sum-in-force : (fs : List Form) (ts : List Term) (cs : List Check) {v : Finding}
+    → v ≡ finding ((all (formIn fs) (formsOf ts) else 8) ∷ cs) → v ≡ pass → T (all (formIn fs) (formsOf ts))
+sum-in-force fs ts cs e p = pass→passed ((all (formIn fs) (formsOf ts) else 8) ∷ cs) (sym e ∙ p) .0

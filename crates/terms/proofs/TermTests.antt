@@ -3,7 +3,6 @@ use mathlib.Core.Path.{_≡_, refl, sym, ap, ap₂, _∙_}
 use mathlib.Core.Bool.{Bool, true, false, _&&_, cond}
 use mathlib.Core.List.{List, _∷_}
 use Prim.Native.Nat.{ℕ, _+_, _*_, _<_}
-use native.Mathlib.Omega.{arith}
 use borrow.Author.Tests.{le-leb}
 use lib.Dec.{T, ltb, ltb→lt}
 use lib.IntN.{ℤ}
@@ -13,17 +12,14 @@ use Rattle.ints.proofs.Bools.{T-and, and-T, T→true, true→T}
 use Rattle.ints.proofs.Lists.{all-at, all-implies, all-agree, all-map}
 use Rattle.rows.specs.Form.{Form, formAt, rowAt, inRange, legalMultiplier}
 use Rattle.rows.specs.Sum.{Term, terms, summed, summand, Summable}
-use Rattle.rows.proofs.TermLaws.{length-terms}
 use Rattle.ledger.specs.Literals.{ascending}
 use Rattle.ledger.specs.Ledger.{nthForm, nthRow}
-use Rattle.ledger.specs.Record.{fk, ofRule}
-use Rattle.ledger.specs.Checks.{Check, _else_, formIn, countIn, formsOf, divisorIs, firstDivisor}
+use Rattle.ledger.specs.Checks.{Check, _else_, formIn, formsOf, divisorIs, firstDivisor}
 use Rattle.ledger.specs.Apply.{Finding, fail, finding}
 use Rattle.rules.specs.Read.{FormsHeld, formsIn}
 use Rattle.terms.specs.Picks.{Picked, Paired, allowed}
 use Rattle.ints.proofs.Lists.{all-and}
 use Rattle.terms.proofs.TermParts.{forms-terms, first-divisor, sum-agrees, legal-small, legal-numbers}
-use Rattle.rules.proofs.FormTests.{count-in}
 use Rattle.rules.proofs.HeldLaws.{form-count, form-is, form-legal, form-inside}
 
 -- ---- the shared tests, by the cells
@@ -95,8 +91,7 @@ module _ {n many : ℕ} {cells : List ℤ} (h : FormsHeld n many cells) {ps : Li
 
     pub shared-read : (cs ds : List Check) → (T (inForce many ps) → finding cs ≡ finding ds)
         → finding
-        ((countIn (ofRule fk) (length ts) else 5)
-        ∷ (all (formIn fs) (formsOf ts) else 8)
+        ((all (formIn fs) (formsOf ts) else 8)
         ∷ (ascending (formsOf ts) else 9)
         ∷ (all kind-is ts else 10)
         ∷ (all multiplier-is ts else 10)
@@ -104,10 +99,8 @@ module _ {n many : ℕ} {cells : List ℤ} (h : FormsHeld n many cells) {ps : Li
         ≡ finding (shared n many cells low high ps ms ds)
     unfolding finding
     shared-read cs ds rest =
-        let l : length ts ≡ length ps = length-terms ps ms (p .paired) in
-        let count = count-in (ofRule fk) (length ts) (omega (arith, p .some)) (omega (arith, p .few)) in
         let forms : all (formIn fs) ps ≡ inForce many ps = ap (λ (k : ℕ). all (λ f. ltb f k) ps) (form-count h) in
-        rw (count, forms-terms ps ms (p .paired), forms)
+        rw (forms-terms ps ms (p .paired), forms)
         (where-holds (inForce many ps) _ _ _
         (λ k. ap (λ (v : Finding). cond (ascending ps) v (fail 9))
         (both (all kind-is ts) (all multiplier-is ts) (finding cs) (fail 10)

@@ -23,7 +23,7 @@ use Rattle.terms.proofs.clash.Tie as tie
 
 in-force : (n : ℕ) (fs : List Form) (ts : List Term) {v : Finding} → v ≡ finding (tests n fs [] (CL ts)) → v ≡ pass → T (all (formIn fs) (formsOf ts))
 unfolding tests
-in-force n fs ts e p = sum-in-force fs ts _ _ e p
+in-force n fs ts e p = sum-in-force fs ts _ e p
 
 read-terms-requires : tie.Need-read-terms-requires
 read-terms-requires c κs = search needs

@@ -1,12 +1,14 @@
 -- What is held may be proposed from, and what is proposed, settled, is what the record does.
-use mathlib.Core.Path.{_≡_, ap, _∙_}
+use mathlib.Core.Path.{_≡_, sym, ap, _∙_}
 use mathlib.Core.List.{List}
 use Prim.Native.Nat.{ℕ, suc}
 use lib.IntN.{ℤ}
 use lib.ListN.{length}
 use Rattle.rows.specs.Limits.{mostTerms}
 use Rattle.ledger.specs.Record.{RecordMark}
-use Rattle.ledger.specs.Apply.{fail, finding, Proposal, proposed, settles, apply}
+use Rattle.ledger.specs.Apply.{fail, finding}
+use Rattle.ledger.proofs.Findings.{in-two-steps}
+use Rattle.ledger.specs.Settles.{Proposal, proposed, settles}
 use Rattle.ledger.specs.Bytes.{shape, fields, decode, applyBytes}
 use Rattle.session.specs.declared.state.Session.{Session}
 use Rattle.session.specs.Cells.{Tables, ledgerOf}
@@ -46,9 +48,12 @@ module _ (n : ℕ) (s : Session) (t : Tables) (b : List ℕ) where
   stepped-settled : {p : Proposal} {c : Change} {t' : Tables} (m : RecordMark) → OfMark b m
       → p ≡ proposed n (formsIn n (s .forms) (t .forms)) (linesIn (s .lines) (t .pool) (t .lines)) (fields b m)
       → Gives n s t (settles (ledgerOf n s t) p) c t' → resultBy s c t' ≡ stepped n s t b
-  unfolding stepped applyBytes apply decode ledgerOf
+  unfolding stepped applyBytes decode ledgerOf
   stepped-settled m o e g =
-      g .result ∙ ap (λ (x : Proposal). settled n s t (settles (ledgerOf n s t) x)) e ∙ rw (o .shaped, o .bearing)
+      g .result
+      ∙ ap (λ (x : Proposal). settled n s t (settles (ledgerOf n s t) x)) e
+      ∙ ap (settled n s t) (sym (in-two-steps n (ledgerOf n s t) (fields b m)))
+      ∙ rw (o .shaped, o .bearing)
 
 -- by what is seen of a session
 module _ {n : ℕ} {top : Top} {t : Tables} where

@@ -11,7 +11,8 @@ use Rattle.ints.proofs.Bools.{never, T→true, T-and}
 use Rattle.ledger.specs.Ledger.{Ledger}
 use Rattle.ledger.specs.Record.{Record, make, OP, WD, Made, accepted, refused}
 use Rattle.ledger.specs.Checks.{Check, tests, makes, room, checks, Passed}
-use Rattle.ledger.specs.Apply.{Finding, pass, fail, finding, Outcome, judged, proposedBy, proposed, stored, settles, apply, done, made}
+use Rattle.ledger.specs.Apply.{Finding, pass, fail, finding, Outcome, judged, apply, done, made}
+use Rattle.ledger.specs.Settles.{proposedBy, proposed, stored, settles}
 use Rattle.ledger.specs.Bytes.{shape, decode, applyBytes}
 
 -- ---- a list of tests
@@ -101,19 +102,23 @@ judged-keeps P (c ∷ cs) l o has f = go (c .passes) (λ t. judged-keeps P cs l 
 
 -- ---- a record, on a ledger of forms of n unknowns
 
--- the tests of its rule and then those of the ledger, in one list
 pub by-checks : (n : ℕ) (l : Ledger) (r : Record)
     → apply n l r ≡ judged (finding (checks n l r)) l (record { answer = accepted (made l r); ledger = done l r })
-unfolding apply proposed settles stored checks done made
-by-checks n l (make q) = by (finding (tests n (l .forms) (l .lines) q)) refl
+unfolding apply
+by-checks n l r = refl
+
+-- the tests of its rule come first, and what the rule makes is then settled by those of the ledger
+pub in-two-steps : (n : ℕ) (l : Ledger) (r : Record) → apply n l r ≡ settles l (proposed n (l .forms) (l .lines) r)
+unfolding apply proposed settles stored
+in-two-steps n l (make q) = by (finding (tests n (l .forms) (l .lines) q)) refl
   where
     by : (f : Finding) → finding (tests n (l .forms) (l .lines) q) ≡ f
-        → settles l (proposedBy f (makes (l .lines) q))
-        ≡ judged (finding (checks n l (make q))) l (record { answer = accepted (made l (make q)); ledger = done l (make q) })
+        → judged (finding (checks n l (make q))) l (record { answer = accepted (made l (make q)); ledger = done l (make q) })
+        ≡ settles l (proposedBy f (makes (l .lines) q))
     by pass e = rw (pass-append (tests n (l .forms) (l .lines) q) (room l (makes (l .lines) q)) e)
     by (fail k) e = rw (fail-append (tests n (l .forms) (l .lines) q) (room l (makes (l .lines) q)) k e)
-by-checks n l OP = refl
-by-checks n l WD = refl
+in-two-steps n l OP = refl
+in-two-steps n l WD = refl
 
 -- what the ledger has, and an accepted record leaves, the ledger has after any record
 pub apply-keeps : (P : Ledger → Type 0) (n : ℕ) (l : Ledger) (r : Record) → P l → (Passed (checks n l r) → P (done l r)) → P (apply n l r .ledger)

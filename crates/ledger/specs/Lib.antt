@@ -4,6 +4,7 @@ pub mod Ledger
 pub mod Record
 pub mod Checks
 pub mod Apply
+pub mod Settles
 pub mod Bytes
 pub mod Run
 pub mod Truth

@@ -11,7 +11,8 @@ use Rattle.ledger.specs.Literals.{negated, joined, lineOf}
 use Rattle.ledger.specs.Ledger.{Line, derived, New, newLine}
 use Rattle.ledger.specs.Record.{Rule, make}
 use Rattle.ledger.specs.Checks.{tests, makes, derivedLine}
-use Rattle.ledger.specs.Apply.{Finding, pass, fail, finding, proposes, proposedBy, proposed}
+use Rattle.ledger.specs.Apply.{Finding, pass, fail, finding}
+use Rattle.ledger.specs.Settles.{proposes, proposedBy, proposed}
 use Rattle.session.specs.Answers.{numberOf, findingOf}
 use Rattle.session.specs.declared.answers.Verdict.{Verdict}
 use Rattle.session.specs.declared.answers.Verdict.the-variants.{Pass, Fail}

@@ -9,7 +9,7 @@ use lib.ListN.{length, take}
 use lib.Seq.{take-append-seam}
 use borrow.Rule.Slice.PartMut.{putMid}
 use Rattle.ledger.specs.Record.{ofRule, Layout, ruleLayout}
-use Rattle.ledger.specs.Apply.{Proposal}
+use Rattle.ledger.specs.Settles.{Proposal}
 use Rattle.records.specs.declared.marks.RuleMark.{RuleMark}
 use Rattle.records.specs.Marks.{ruleMarkOf, OfMark}
 use Rattle.fields.specs.Fields.{Listed}

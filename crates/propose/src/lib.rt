@@ -3,7 +3,7 @@
 ghost use lib.ListN.{take};
 ghost use Rattle.rows.specs.Limits.{unknowns};
 ghost use Rattle.ledger.specs.Record.{make, ofRule};
-ghost use Rattle.ledger.specs.Apply.{proposed};
+ghost use Rattle.ledger.specs.Settles.{proposed};
 ghost use Rattle.ledger.specs.Bytes.{ruleFrom, fields};
 ghost use Rattle.session.specs.Limits.{formCells};
 ghost use Rattle.records.specs.Marks.{ruleMarkOf, recordMarkOf, OfMark};

@@ -14,7 +14,8 @@ use Rattle.ledger.specs.Limits.{mostForms}
 use Rattle.ledger.specs.Ledger.{Line, nthRow, newForm}
 use Rattle.ledger.specs.Record.{Rule, make, FM, PM}
 use Rattle.ledger.specs.Checks.{Check, _else_, formIn, bothAre, tests, makes}
-use Rattle.ledger.specs.Apply.{Finding, pass, fail, finding, proposes, proposedBy, proposed}
+use Rattle.ledger.specs.Apply.{Finding, pass, fail, finding}
+use Rattle.ledger.specs.Settles.{proposes, proposedBy, proposed}
 use Rattle.ledger.proofs.Findings.{pass→passed, pass-append, fail-append}
 use Rattle.session.specs.Answers.{numberOf, findingOf}
 use Rattle.session.specs.declared.answers.Refusal.{Refusal}

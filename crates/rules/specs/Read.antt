@@ -10,7 +10,8 @@ use Rattle.rows.specs.Form.{Form, formAt, legal}
 use Rattle.ledger.specs.Limits.{mostForms, mostLines, longestLine}
 use Rattle.ledger.specs.Ledger.{Line}
 use Rattle.ledger.specs.Record.{Rule, make, RS}
-use Rattle.ledger.specs.Apply.{finding, proposed}
+use Rattle.ledger.specs.Apply.{finding}
+use Rattle.ledger.specs.Settles.{proposed}
 use Rattle.ledger.specs.Checks.{tests}
 use Rattle.session.specs.Limits.{formTable, lineTable}
 use Rattle.session.specs.Cells.{tables, endBefore, lineAt}

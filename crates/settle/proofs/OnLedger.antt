@@ -11,7 +11,8 @@ use Rattle.ledger.specs.Limits.{mostForms, mostLines, mostLiterals, mostLevels}
 use Rattle.ledger.specs.Ledger.{Line, literalCount, newForm, newLine}
 use Rattle.ledger.specs.Record.{Made, form, line, level, accepted}
 use Rattle.ledger.specs.Checks.{room}
-use Rattle.ledger.specs.Apply.{finding, stored, settles, opens, withdraws}
+use Rattle.ledger.specs.Apply.{finding}
+use Rattle.ledger.specs.Settles.{stored, settles, opens, withdraws}
 use Rattle.session.specs.declared.state.Session.{Session}
 use Rattle.session.specs.Limits.{formCells}
 use Rattle.session.specs.Cells.{Tables, tables, countsOf, ledgerOf}

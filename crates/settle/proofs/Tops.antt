@@ -8,7 +8,7 @@ use Rattle.rows.specs.Form.{formOf}
 use Rattle.ledger.specs.Limits.{mostForms, mostLines, mostLiterals, mostLevels}
 use Rattle.ledger.specs.Ledger.{Line, newForm, newLine}
 use Rattle.ledger.specs.Record.{form, line, level}
-use Rattle.ledger.specs.Apply.{stored, settles, opens, withdraws}
+use Rattle.ledger.specs.Settles.{stored, settles, opens, withdraws}
 use Rattle.session.specs.declared.state.Mark.{Mark}
 use Rattle.session.specs.declared.state.Session.{Session}
 use Rattle.session.specs.Limits.{formCells}

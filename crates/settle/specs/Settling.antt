@@ -8,7 +8,8 @@ use Rattle.rows.specs.Form.{formOf}
 use Rattle.ledger.specs.Limits.{mostLiterals, mostLevels}
 use Rattle.ledger.specs.Ledger.{Line, newForm, newLine}
 use Rattle.ledger.specs.Record.{Answer, accepted, refused, level}
-use Rattle.ledger.specs.Apply.{Outcome, stored, Proposal, settles}
+use Rattle.ledger.specs.Apply.{Outcome}
+use Rattle.ledger.specs.Settles.{stored, Proposal, settles}
 use Rattle.session.specs.declared.state.Session.{Session}
 use Rattle.session.specs.Limits.{poolTable, lineTable}
 use Rattle.session.specs.Cells.{Tables, tables, countsOf, ledgerOf}

@@ -5,7 +5,7 @@ ghost use lib.ListN.{length};
 ghost use Rattle.rows.specs.Limits.{unknowns};
 ghost use Rattle.ledger.specs.Limits.{mostLevels};
 ghost use Rattle.ledger.specs.Literals.{joined};
-ghost use Rattle.ledger.specs.Apply.{opens, withdraws};
+ghost use Rattle.ledger.specs.Settles.{opens, withdraws};
 ghost use Rattle.session.specs.Limits.{formCells, formTable};
 ghost use Rattle.session.specs.Cells.{Tables, asGiven, asLent, asLeft};
 ghost use Rattle.session.specs.Answers.{answerOf};

@@ -1,6 +1,6 @@
 use mathlib.Core.Path.{refl}
 use borrow.Author.Needs.{needs}
-use Rattle.ledger.specs.Apply.{proposed}
+use Rattle.ledger.specs.Settles.{proposed}
 use Rattle.propose.proofs.propose.Statement.{statement}
 use Rattle.propose.proofs.propose.Tie as tie
 

@@ -1,6 +1,6 @@
 use native.Mathlib.Nat.{sub-zero}
 use borrow.Author.Needs.{needs}
-use Rattle.ledger.specs.Apply.{settles}
+use Rattle.ledger.specs.Settles.{settles}
 use Rattle.settle.proofs.Tops.{seen-levels, seen-literals}
 use Rattle.proposals.specs.Proposing.{Fits, Within}
 use Rattle.proposals.specs.declared.Proposal.the-variants.{Line}

@@ -25,7 +25,7 @@ use Rattle.laid.proofs.Sizes.{laid-sizes}
 use Rattle.laid.proofs.LegalLaid.{laid-in-order}
 use Rattle.laid.specs.Held.{Held}
 use Rattle.laid.proofs.HeldLaws.{held-legal}
-use Rattle.settle.specs.Settling.{settled}
+use Rattle.laid.specs.Result.{settled}
 use Rattle.checker.specs.Feed.{stepped, beside, feed}
 
 pub restored : (n : ℕ) (t : Tables) → withExcess (named n t) (excess n t) ≡ t

@@ -19,7 +19,7 @@ use Rattle.session.specs.Cells.{Tables, tables, named, excess, withExcess, ledg
 use Rattle.session.specs.Calls.{entry}
 use Rattle.laid.specs.Laid.{tablesOf, sessionOf}
 use Rattle.laid.proofs.HeldLaws.{held-legal}
-use Rattle.settle.specs.Settling.{unchanged, settled}
+use Rattle.laid.specs.Result.{unchanged, settled}
 use Rattle.checker.specs.Feed.{stepped, beside, fedBy, feed}
 use Rattle.checker.proofs.Beside.{restored, laid-held, entry-beside, excess-beside}
 use Rattle.checker.proofs.Feeding.{entry-held}

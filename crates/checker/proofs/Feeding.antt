@@ -16,7 +16,7 @@ use Rattle.session.specs.Calls.{entry}
 use Rattle.order.proofs.Entry.{entry-long}
 use Rattle.laid.specs.Held.{Held}
 use Rattle.checker.specs.declared.keep.Fed.{Fed}
-use Rattle.settle.specs.Settling.{Result, unchanged}
+use Rattle.laid.specs.Result.{Result, unchanged}
 use Rattle.checker.specs.Feed.{stepped, beside, feed, resultOf}
 
 module _ (n : ℕ) (s : Session) (t : Tables) where

@@ -21,8 +21,10 @@ use Rattle.proposals.specs.Proposing.{Scratch}
 use Rattle.propose.specs.Ready.{Ready}
 use Rattle.settle.specs.declared.Change.{Change}
 use Rattle.settle.specs.declared.Top.{Top}
-use Rattle.settle.specs.Settling.{unchanged, settled, resultBy, Gives, Seen, Settles}
-use Rattle.checker.specs.Feed.{stepped, Changes}
+use Rattle.laid.specs.Result.{unchanged, settled}
+use Rattle.settle.specs.Settling.{resultBy, Gives, Seen, Settles}
+use Rattle.checker.specs.Feed.{stepped}
+use Rattle.checker.specs.Changes.{Changes}
 
 held-forms : {n : ℕ} {s : Session} {t : Tables} → Held n s t → FormsHeld n (s .forms) (t .forms)
 held-forms h = record { size = h .exact .sized .form-size; few = held-clauses h .few-forms; contents = held-clauses h .contents }

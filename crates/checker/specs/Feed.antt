@@ -1,5 +1,4 @@
 -- What the call feed does: the answer, the session and every lent cell afterwards, for every input.
-use mathlib.Core.Path.{_≡_}
 use mathlib.Core.List.{List}
 use Prim.Native.Nat.{ℕ}
 use Rattle.ledger.specs.Apply.{Finding, pass, fail}
@@ -9,25 +8,13 @@ use Rattle.session.specs.Cells.{Tables, named, excess, withExcess, ledgerOf}
 use Rattle.session.specs.Answers.{answerOf}
 use Rattle.session.specs.Calls.{entry}
 use Rattle.laid.specs.Laid.{tablesOf, sessionOf}
-use Rattle.laid.specs.Held.{Held}
-use Rattle.settle.specs.declared.Change.{Change}
-use Rattle.settle.specs.declared.Top.{Top}
-use Rattle.settle.specs.Settling.{Result, unchanged, settled, InPlace, resultBy, topOf}
+use Rattle.laid.specs.Result.{Result, unchanged, settled}
 use Rattle.checker.specs.declared.keep.Fed.{Fed}
 
 -- a record on tables that are cut to their named cells and in order
 unfoldable pub stepped : ℕ → Session → Tables → List ℕ → Result
 unfolding applyBytes ledgerOf sessionOf tablesOf
 stepped n s t b = settled n s t (applyBytes n (ledgerOf n s t) b)
-
--- the change, with the cells t', is what the record does
-pub record Steps (n : ℕ) (s : Session) (t : Tables) (b : List ℕ) (c : Change) (t' : Tables) : Type 0 where
-  pub result : resultBy s c t' ≡ stepped n s t b
-  pub place : InPlace c
-
--- and is so on whichever session has this top
-abbrev pub Changes : ℕ → Top → Tables → List ℕ → Change → Tables → Type 0
-Changes n top t b c t' = (s : Session) → topOf s ≡ top → Held n s t → Steps n s t b c t'
 
 -- the excess of the tables stays
 abbrev pub beside : Tables → Result → Result

@@ -6,7 +6,7 @@ ghost use Rattle.session.specs.Cells.{asGiven, asLent, asLeft};
 ghost use Rattle.records.specs.Marks.{recordMarkOf, OfMark};
 ghost use Rattle.proposals.specs.Proposing.{Scratch};
 ghost use Rattle.settle.specs.Settling.{Seen};
-ghost use Rattle.checker.specs.Feed.{Changes};
+ghost use Rattle.checker.specs.Changes.{Changes};
 use records::marks::RecordMark;
 use session::state::Session;
 use settle::Change;

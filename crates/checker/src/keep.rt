@@ -2,7 +2,7 @@
 ghost use mathlib.Core.Path.{_≡_};
 ghost use Rattle.session.specs.Answers.{numberOf};
 ghost use Rattle.session.specs.Cells.{Tables};
-ghost use Rattle.settle.specs.Settling.{unchanged};
+ghost use Rattle.laid.specs.Result.{unchanged};
 ghost use Rattle.checker.specs.Feed.{resultOf};
 use session::answers::Answer;
 use session::answers::Refusal;

@@ -5,7 +5,7 @@ ghost use lib.ListN.{length};
 ghost use Rattle.ints.specs.Tests.{eqZs};
 ghost use Rattle.rows.specs.Limits.{unknowns};
 ghost use Rattle.rows.specs.Row.{scaled, shifted};
-ghost use Rattle.rows.specs.Form.{rowAt, Inside};
+ghost use Rattle.rows.specs.Summable.{rowAt, Inside};
 ghost use Rattle.rows.specs.Conditions.{sameRow, isOneMinus, isOneMore, isEither};
 
 // Whether each cell of a is m times that of b.

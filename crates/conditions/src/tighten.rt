@@ -4,7 +4,7 @@ ghost use mathlib.Core.Bool.{_&&_};
 ghost use lib.IntN.{pos, _-ℤ_, _*ℤ_};
 ghost use lib.Signed.{ltZ, leZ};
 ghost use Rattle.rows.specs.Limits.{unknowns};
-ghost use Rattle.rows.specs.Form.{rowAt, Inside};
+ghost use Rattle.rows.specs.Summable.{rowAt, Inside};
 ghost use Rattle.rows.specs.Conditions.{tightens};
 
 // Whether c * (b - 1) < a <= c * b.

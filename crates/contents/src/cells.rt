@@ -4,7 +4,8 @@ ghost use Prim.Native.Nat.{_+_, _*_};
 ghost use lib.Dec.{leb};
 ghost use lib.ListN.{length};
 ghost use Rattle.rows.specs.Limits.{unknowns};
-ghost use Rattle.rows.specs.Form.{formAt, rowAt, Inside};
+ghost use Rattle.rows.specs.Form.{formAt};
+ghost use Rattle.rows.specs.Summable.{rowAt, Inside};
 
 // Whether the table has form f.
 pub fn has_form(table: &[i32], f: u16) -> bool

@@ -4,7 +4,7 @@ use mathlib.Core.List.{List, [], _∷_}
 use Prim.Native.Nat.{ℕ}
 use lib.ListN.{getD}
 use Rattle.ledger.specs.Record as ledger
-use Rattle.ledger.specs.Run.{refuted, notRefuted}
+use Rattle.ledger.specs.Standing.{refuted, notRefuted}
 use Rattle.session.specs.declared.state.Session.{Session}
 use Rattle.session.specs.declared.answers.Refusal.{Refusal}
 use Rattle.session.specs.declared.answers.Refusal.the-variants.{ShortTable, NotInOrder, WrongLength, UnknownMark, CountOutside, IllegalContent, NoRoom, NotInForce, NotAscending, NotAllowed, ConditionFails, LineTooLong, NoLevelOpen}
@@ -24,7 +24,7 @@ use Rattle.session.specs.Answers.{numberOf, madeOf, answerOf, findingOf}
 use Rattle.session.specs.Calls.{Started, started, notStarted, Beginning, start, startOf, beginningOf, Stands, stands, noStanding, standing, standsOf}
 use Rattle.checker.specs.declared.keep.Fed.{Fed}
 use Rattle.stream.specs.declared.Ran.{Ran}
-use Rattle.settle.specs.Settling.{Result}
+use Rattle.laid.specs.Result.{Result}
 use Rattle.checker.specs.Feed.{feed, resultOf}
 use Rattle.stream.specs.Run.{Totals, run, stopNumber, totalsOf}
 

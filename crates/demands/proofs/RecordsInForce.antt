@@ -7,7 +7,7 @@ use Prim.Native.Nat.{ℕ}
 use lib.Dec.{T}
 use Rattle.rows.specs.Truth.{Integers}
 use Rattle.ledger.specs.Ledger.{Ledger}
-use Rattle.ledger.specs.Run.{refuted}
+use Rattle.ledger.specs.Standing.{refuted}
 use Rattle.ledger.specs.Truth.{premiseLists}
 use Rattle.ledger.specs.History.{afterBytes, opCount, NoWD}
 use Rattle.ledger.specs.Carried.{formsCarried, listsCarried, satisfied}

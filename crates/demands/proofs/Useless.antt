@@ -1,28 +1,26 @@
 -- A checker that meets the contract of its call is none of the useless ones. What shows it is fed to the fresh ledger laid out, over any number
 -- of unknowns. And none of the classes is empty.
 use mathlib.Core.Path.{_≡_, refl, sym, ap, subst, _∙_}
-use mathlib.Core.Logic.{_⊎_, inl, inr}
-use mathlib.Core.List.{List, [], _∷_, _++_}
-use Prim.Native.Nat.{ℕ, zero, suc, _+_}
+use mathlib.Core.List.{List, [], _∷_}
+use Prim.Native.Nat.{ℕ, _+_}
 use native.Mathlib.Omega.{arith}
-use lib.ListN.{length, take, getD}
+use lib.ListN.{getD}
 use Rattle.ints.specs.Tests.{upTo}
 use Rattle.ints.proofs.Bools.{never}
 use Rattle.ledger.specs.Ledger.{fresh}
 use Rattle.ledger.specs.Record.{Answer, level, accepted, refused, isAccepted}
-use Rattle.ledger.specs.Apply.{Finding, pass, fail}
 use Rattle.ledger.specs.Bytes.{applyBytes}
-use Rattle.ledger.specs.Run as ledger
+use Rattle.ledger.specs.Split.{split, recordsOf}
 use Rattle.ledger.proofs.LegalLaws.{legal-fresh}
 use Rattle.session.specs.declared.state.Session.{Session}
 use Rattle.session.specs.Cells.{Tables, tables, withExcess}
-use Rattle.session.specs.Calls.{entry}
 use Rattle.laid.specs.Laid.{sessionOf, tablesOf}
-use Rattle.settle.specs.Settling.{Result, unchanged}
+use Rattle.laid.specs.Result.{Result, unchanged}
 use Rattle.checker.specs.Feed.{feed}
-use Rattle.stream.specs.Run.{Totals, totals, runBy, run}
-use Rattle.demands.specs.Useless.{FeedChecker, RunChecker, MeetsFeed, MeetsRun, RefusesEverything, HasConstantAnswer, WritesNothing, WavesTheRest, InventsTotals, CountsOfNothing}
-use Rattle.pieces.proofs.RunLaid.{resultLaid, totalsLaid, feed-laid, run-laid}
+use Rattle.stream.specs.Run.{Totals, totals, run}
+use Rattle.demands.specs.Useless.{FeedChecker, RunChecker, MeetsFeed, MeetsRun, RefusesEverything, HasConstantAnswer, WritesNothing, waving, WavesTheRest, InventsTotals}
+use Rattle.demands.proofs.Stopping.{run-leaves}
+use Rattle.pieces.proofs.RunLaid.{resultLaid, feed-laid}
 
 -- ---- records in bytes
 
@@ -37,10 +35,6 @@ withdrawal = 87 ∷ 68 ∷ []
 -- PM with no literal
 abbrev emptyPremise : List ℕ
 emptyPremise = 80 ∷ 77 ∷ 0 ∷ []
-
--- it and then WD: the second record is refused, with 13
-abbrev premiseWithdrawal : List ℕ
-premiseWithdrawal = emptyPremise ++ withdrawal
 
 abbrev answered : Result → Answer
 answered r = r .answer
@@ -85,40 +79,11 @@ module _ (n : ℕ) where
 
   -- ---- run
 
-  -- nothing is counted of an empty stream, also where 1 or 2 refuses it
-  none : (u : Session) (v : Tables) → (run n u v [] .records ≡ 0) × (run n u v [] .bytes ≡ 0)
-  unfolding run ledger.split
-  none u v = by (entry n u v)
-    where
-      by : (k : Finding) → (runBy k n u v [] .records ≡ 0) × (runBy k n u v [] .bytes ≡ 0)
-      by pass = (refl, refl)
-      by (fail k) = (refl, refl)
-
-  module _ (f : RunChecker) where
-    pub counting-invents : CountsOfNothing f → InventsTotals n f
-    counting-invents (u, v, counts) = (u, v, [], λ same. counts (same .0 ∙ none u v .0, same .1 ∙ none u v .1))
-
-    module _ (meets : MeetsRun n f) where
-      ran : (b : List ℕ) → f s t b ≡ totalsLaid n noExcess (ledger.run n fresh b)
-      ran b = meets s t b ∙ run-laid n noExcess fresh (legal-fresh n) b
-
-      pub waving-breaks : WavesTheRest f → ⊥
-      unfolding applyBytes ledger.runFrom ledger.split upTo
-      waving-breaks waves = by (waves s t premiseWithdrawal)
-        where
-          counted : f s t premiseWithdrawal .records ≡ 1
-          counted = ap (λ (r : Totals). r .records) (ran premiseWithdrawal)
-
-          stopped : f s t premiseWithdrawal .stop ≡ 13
-          stopped = ap (λ (r : Totals). r .stop) (ran premiseWithdrawal)
-
-          by : (f s t premiseWithdrawal .records ≡ 0) ⊎ (f s t premiseWithdrawal .stop ≡ 0) → ⊥
-          by (inl e) = omega (arith, e, counted)
-          by (inr e) = omega (arith, e, stopped)
-
-      pub inventing-breaks : InventsTotals n f → ⊥
-      inventing-breaks (u, v, b, invents) =
-          let same = meets u v b in invents (ap (λ (r : Totals). r .records) same, ap (λ (r : Totals). r .bytes) same)
+  module _ (f : RunChecker) (meets : MeetsRun n f) where
+    pub inventing-breaks : InventsTotals n f → ⊥
+    inventing-breaks (u, v, b, invents) =
+        let (within, leaves, bytes) = run-leaves n u v b in
+        invents (run n u v b .records) within (rw (meets u v b) leaves) (ap (λ (r : Totals). r .records) (meets u v b)) (rw (meets u v b) bytes)
 
   -- ---- a member of each class
 
@@ -132,21 +97,10 @@ module _ (n : ℕ) where
   pub idler : WritesNothing (λ u v b. record { answer = feed n u v b .answer; session = feed n u v b .session; tables = v })
   idler u v b = refl
 
-  -- as the run of the first record gives, with the rest counted as accepted
-  abbrev pub waved : List ℕ → Totals → ℕ → Totals
-  waved b r zero = r
-  waved b r (suc k) = totals (length (ledger.recordsOf b)) (length b) 0 (r .session) (r .tables)
-
-  abbrev pub first : Session → Tables → List ℕ → Totals
-  first u v b = run n u v (take (ledger.front b) b)
-
-  pub waver : WavesTheRest (λ u v b. waved b (first u v b) (first u v b .records))
-  waver u v b = by (first u v b .records) refl
-    where
-      by : (k : ℕ) → first u v b .records ≡ k → (waved b (first u v b) k .records ≡ 0) ⊎ (waved b (first u v b) k .stop ≡ 0)
-      by zero e = inl e
-      by (suc k) e = inr refl
+  pub waver : WavesTheRest n (λ u v b. waving n u v (recordsOf b))
+  waver u v b e = refl
 
   -- all but the records is right
-  pub inventor : CountsOfNothing (λ u v b. totals (run n u v b .records + 1) (run n u v b .bytes) (run n u v b .stop) (run n u v b .session) (run n u v b .tables))
-  inventor = (s, t, λ same. omega (arith, same .0))
+  pub inventor : InventsTotals n (λ u v b. totals (run n u v b .records + 1) (run n u v b .bytes) (run n u v b .stop) (run n u v b .session) (run n u v b .tables))
+  unfolding run split
+  inventor = (s, t, [], λ k few _ records _. omega (arith, few, records))

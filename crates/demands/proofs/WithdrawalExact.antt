@@ -10,9 +10,10 @@ use Rattle.ledger.specs.Ledger.{Ledger, fresh}
 use Rattle.ledger.specs.Legal.{Legal}
 use Rattle.ledger.specs.Apply.{pass}
 use Rattle.ledger.specs.Bytes.{applyBytes}
-use Rattle.ledger.specs.Run.{fedAll, refuted}
-use Rattle.ledger.specs.Run as ledger
-use Rattle.ledger.specs.Truth.{premisesTrue}
+use Rattle.ledger.specs.Run.{fedAll}
+use Rattle.ledger.specs.Standing.{refuted}
+use Rattle.ledger.specs.Standing as ledger
+use Rattle.ledger.specs.Premises.{premisesTrue}
 use Rattle.ledger.specs.History.{afterBytes}
 use Rattle.ledger.specs.Kept.{AcceptedBytes, bytesInForce}
 use Rattle.ledger.proofs.InForce.{bytes-in-force}

@@ -1,15 +1,17 @@
 -- What calls since a start leave, each on the session and tables that the call before it returned, and the records that they fed.
-use mathlib.Core.List.{List, [], _∷_, _++_, reverse}
-use Prim.Native.Nat.{ℕ}
-use lib.ListN.{take}
-use Rattle.ledger.specs.Record.{isAccepted}
-use Rattle.ledger.specs.Run.{recordsOf}
+use mathlib.Core.Path.{_≡_}
+use mathlib.Core.Logic.{_⊎_}
+use mathlib.Core.List.{List, [], _∷_, _++_, map, flatten, reverse}
+use Prim.Native.Nat.{ℕ, _<_}
+use lib.ListN.{length, take, getD}
+use Rattle.ledger.specs.Record.{refused, isAccepted}
+use Rattle.ledger.specs.Split.{recordsOf}
 use Rattle.ledger.specs.History.{InForce}
 use Rattle.session.specs.declared.state.Session.{Session}
 use Rattle.session.specs.Cells.{Tables}
 use Rattle.session.specs.Calls.{start}
 use Rattle.checker.specs.Feed.{feed}
-use Rattle.stream.specs.Run.{run}
+use Rattle.stream.specs.Run.{Totals, run}
 
 -- a record fed, or a run over a stream; the standing changes nothing
 pub data Call : Type 0 where
@@ -60,3 +62,14 @@ StillInForce n t cs bs = InForce n (history n t cs) (reverse bs)
 unfoldable pub EachAccepted : ℕ → State → List (List ℕ) → Type 0
 EachAccepted n s [] = Unit {0}
 EachAccepted n s (b ∷ bs) = isAccepted (feed n (s .session) (s .tables) b .answer) × EachAccepted n (called n s (fed b)) bs
+
+-- ---- what a run should do
+
+-- of the run r over the records bs from s on: the records that it counts are accepted, it leaves what they leave, and it ends with them or stops
+-- at the next one, which is bad
+pub record Stops (n : ℕ) (s : State) (bs : List (List ℕ)) (r : Totals) : Type 0 where
+  pub good : EachAccepted n s (take (r .records) bs)
+  pub leaves : calledAll n s (map fed (take (r .records) bs)) ≡ state (r .session) (r .tables)
+  pub bytes : r .bytes ≡ length (flatten (take (r .records) bs))
+  pub end : ((r .stop ≡ 0) × (r .records ≡ length bs))
+      ⊎ ((r .records < length bs) × (feed n (r .session) (r .tables) (getD bs (r .records) []) .answer ≡ refused (r .stop)))

@@ -9,7 +9,7 @@ use lib.ListN.{length, take, set, length-set}
 use lib.Seq.{take-all, take-suc-set}
 use Rattle.ints.specs.Tests.{upTo}
 use Rattle.ints.proofs.Lists.{length-upTo}
-use Rattle.rows.specs.Sum.{terms}
+use Rattle.rows.specs.Summable.{terms}
 use Rattle.rows.proofs.TermLaws.{term}
 
 -- the array has its cells, and the first n of them are read

@@ -5,7 +5,7 @@ use Prim.Native.Nat.{ℕ, _+_, _*_, _≤_}
 use lib.IntN.{ℤ}
 use lib.ListN.{length, take}
 use Rattle.rows.specs.Limits.{mostTerms}
-use Rattle.rows.specs.Sum.{terms}
+use Rattle.rows.specs.Summable.{terms}
 use Rattle.ledger.specs.Limits.{longestLine}
 use Rattle.ledger.specs.Bytes.{byteAt, literalsBehind, termsBehind}
 

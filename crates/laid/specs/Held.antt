@@ -5,7 +5,8 @@ use lib.ListN.{length}
 use Rattle.ledger.specs.Limits.{mostLevels}
 use Rattle.ledger.specs.Checks.{Passed}
 use Rattle.session.specs.declared.state.Session.{Session}
-use Rattle.session.specs.Cells.{Tables, Sized}
+use Rattle.session.specs.Cells.{Tables}
+use Rattle.session.specs.Parts.{Sized}
 use Rattle.session.specs.InOrder.{order}
 
 -- tables of their named cells and no more, and a mark for each level

@@ -17,8 +17,9 @@ use Rattle.ledger.specs.Record.{fm, pm, RecordMark, ofRule, ruleLayout, 
 use Rattle.ledger.specs.Checks.{makes}
 use Rattle.ledger.specs.Apply.{done}
 use Rattle.ledger.specs.Bytes.{byteAt, bears, hasLetters, firstOf, formFrom, literalsBehind, fields, decodeAs, decode}
-use Rattle.ledger.specs.Run.{refuted, standing}
-use Rattle.ledger.specs.Truth.{literalTrue, premisesTrue, premiseLists}
+use Rattle.ledger.specs.Standing.{refuted, standing}
+use Rattle.ledger.specs.Truth.{literalTrue, premiseLists}
+use Rattle.ledger.specs.Premises.{premisesTrue}
 use Rattle.ledger.specs.History.{afterBytes, NoWD}
 use Rattle.ledger.specs.Kept.{AcceptedBytes, bytesInForce}
 use Rattle.ledger.specs.Carried.{formsCarried, listsCarried, satisfied}

@@ -13,3 +13,4 @@ pub mod LegalLaws
 pub mod LinesTrue
 pub mod RunLaws
 pub mod Carried
+pub mod ExampleLaws

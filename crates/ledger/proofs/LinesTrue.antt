@@ -16,13 +16,15 @@ use Rattle.rows.specs.Form.{Form}
 use Rattle.rows.specs.Truth.{Integers}
 use Rattle.ledger.specs.Ledger.{Line, Mark, Ledger, noForm, noLine, New, newForm, newLine, add, opened, backTo, withdrawn}
 use Rattle.ledger.specs.Record.{Record, make, OP, WD}
-use Rattle.ledger.specs.Checks.{lineIn, makes, parents, tests, checks, Passed}
+use Rattle.ledger.specs.Checks.{lineIn, makes, tests, checks, Passed}
+use Rattle.ledger.specs.Parents.{parents}
 use Rattle.ledger.specs.Apply.{Outcome, done, apply}
 use Rattle.ledger.specs.Bytes.{shape, decode, applyBytes}
 use Rattle.ledger.specs.History.{afterBytes}
-use Rattle.ledger.specs.Run.{refuted, standing}
+use Rattle.ledger.specs.Standing.{refuted, standing}
 use Rattle.ledger.specs.Legal.{lineBelow, Legal}
-use Rattle.ledger.specs.Truth.{lineTrue, linesTrue, chosenTrue, asPremise, premisesTrue}
+use Rattle.ledger.specs.Truth.{lineTrue}
+use Rattle.ledger.specs.Premises.{linesTrue, chosenTrue, asPremise, premisesTrue}
 use Rattle.ints.proofs.Lists.{all-append, all-take}
 use Rattle.ledger.proofs.TruthLaws.{Agree, lines-agree, premises-agree}
 use Rattle.ledger.proofs.Findings.{passed-front, judged-keeps, apply-keeps}

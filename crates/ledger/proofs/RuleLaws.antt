@@ -20,9 +20,11 @@ use Rattle.ledger.specs.Limits.{longestLine}
 use Rattle.ledger.specs.Literals.{unnegated, negated, ascending, lineOf, without, below}
 use Rattle.ledger.specs.Ledger.{Line, noLine, nthForm, nthLine, Ledger, New, newForm, newLine}
 use Rattle.ledger.specs.Record.{Rule, FM, PM, RS, FK, TO, TR, EQ, TI, WK, CL, Record, make, OP, WD}
-use Rattle.ledger.specs.Checks.{formIn, lineIn, formsOf, firstDivisor, resolvent, derivedLine, makes, parents, tests, checks, Passed}
+use Rattle.ledger.specs.Checks.{formIn, lineIn, formsOf, firstDivisor, resolvent, derivedLine, makes, tests, checks, Passed}
+use Rattle.ledger.specs.Parents.{parents}
 use Rattle.ledger.specs.Legal.{LegalLine}
-use Rattle.ledger.specs.Truth.{literalTrue, lineTrue, chosenTrue, asPremise}
+use Rattle.ledger.specs.Truth.{literalTrue, lineTrue}
+use Rattle.ledger.specs.Premises.{chosenTrue, asPremise}
 use Rattle.ints.proofs.Lists.{all-map, any-map}
 use Rattle.ledger.proofs.Findings.{noneBelow}
 use Rattle.ledger.proofs.Brought.{Brought}

@@ -14,7 +14,8 @@ use Rattle.ledger.specs.Record.{Record, Made, Answer, accepted, refused,
 use Rattle.ledger.specs.Checks.{countIn, checks}
 use Rattle.ledger.specs.Apply.{finding, Outcome, judged, apply, done, made}
 use Rattle.ledger.specs.Bytes.{Bearing, unknown, bears, markOf, bytesFor, countFrom, shapeOf, shape, decode, applyBytes}
-use Rattle.ledger.specs.Run.{frontBytes, front, split, recordsOf, Run, runFrom, run, fedAll, AllAccepted, Stops}
+use Rattle.ledger.specs.Split.{frontBytes, front, split, recordsOf}
+use Rattle.ledger.specs.Run.{Run, runFrom, run, fedAll, AllAccepted, Stops}
 use Rattle.ledger.specs.History.{afterBytes}
 use Rattle.ledger.specs.Kept.{AcceptedBytes}
 use Rattle.ledger.proofs.Findings.{noneBelow, judged-positive, by-checks}

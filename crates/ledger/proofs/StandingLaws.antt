@@ -7,7 +7,7 @@ use native.Mathlib.Omega.{arith}
 use lib.Dec.{T, eqb, eqb→eq}
 use lib.ListN.{length}
 use Rattle.ledger.specs.Ledger.{Line, Ledger, nthLine}
-use Rattle.ledger.specs.Run.{refuted, notRefuted, standingFrom, standing}
+use Rattle.ledger.specs.Standing.{refuted, notRefuted, standingFrom, standing}
 
 empty : (xs : List ℕ) → T (eqb (length xs) 0) → xs ≡ []
 empty [] t = refl

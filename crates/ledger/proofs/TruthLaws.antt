@@ -11,7 +11,8 @@ use Rattle.rows.specs.Truth.{Integers, formTrue}
 use Rattle.ledger.specs.Literals.{unnegated, negated, formNamed, below}
 use Rattle.ledger.specs.Legal.{lineBelow}
 use Rattle.ledger.specs.Ledger.{Line, premise, nthForm}
-use Rattle.ledger.specs.Truth.{literalTrue, lineTrue, linesTrue, asPremise, premisesTrue}
+use Rattle.ledger.specs.Truth.{literalTrue, lineTrue}
+use Rattle.ledger.specs.Premises.{linesTrue, asPremise, premisesTrue}
 use Rattle.ints.proofs.Lists.{all-agree, any-agree}
 
 -- ---- the form named

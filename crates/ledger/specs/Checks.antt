@@ -13,7 +13,7 @@ use Rattle.rows.specs.Conditions.{sameRow, isOneMinus, isOneMore, isEither, tig
 use Rattle.ledger.specs.Limits.{mostForms, mostLines, mostLiterals, mostLevels, longestLine}
 use Rattle.ledger.specs.Literals.{unnegated, negated, formNamed, ascending, holds, joined, lineOf, without}
 use Rattle.ledger.specs.Ledger.{Line, premise, derived, Ledger, nthForm, nthRow, nthLine, literalCount, New, newForm, newLine}
-use Rattle.ledger.specs.Record.{Rule, FM, PM, RS, FK, TO, TR, EQ, TI, WK, CL, Record, make, OP, WD, RecordMark, layout}
+use Rattle.ledger.specs.Record.{Rule, FM, PM, RS, FK, TO, TR, EQ, TI, WK, CL, Record, make, OP, WD, RecordMark, layout, form, marks}
 
 -- a test, and the refusal's number where it fails
 pub record Check : Type 0 where
@@ -76,20 +76,6 @@ makes ls (EQ z a) = derivedLine (lineOf (negated z ∷ unnegated a ∷ []))
 makes ls (TI a b c) = derivedLine (lineOf (negated a ∷ unnegated b ∷ []))
 makes ls (WK z g) = derivedLine (lineOf (negated z ∷ unnegated g ∷ []))
 makes ls (CL ts) = derivedLine (map negated (formsOf ts))
-
--- ---- the lines that a rule draws on
-
-abbrev pub parents : Rule → List ℕ
-parents (FM f) = []
-parents (PM xs) = []
-parents (RS p i j) = i ∷ j ∷ []
-parents (FK ts) = []
-parents (TO a b) = []
-parents (TR z u v) = []
-parents (EQ z a) = []
-parents (TI a b c) = []
-parents (WK z g) = []
-parents (CL ts) = []
 
 -- ---- the tests of each rule, over n unknowns
 

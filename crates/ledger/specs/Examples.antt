@@ -2,23 +2,23 @@
 -- that it can be refused with, in bytes, as one list. One claim, closed by computing, says that the definitions give what is expected of each.
 use mathlib.Core.Bool.{Bool, true, false, _&&_}
 use mathlib.Core.List.{List, [], _∷_, _++_, map, flatMap}
-use Prim.Native.Nat.{ℕ, suc, _+_, _*_, _-_, _/_, _%_}
+use Prim.Native.Nat.{ℕ, _+_, _-_, _/_, _%_}
 use lib.Dec.{T, eqb}
 use lib.IntN.{ℤ, pos, negsuc}
 use lib.ListN.{length, take, replicate}
 use Rattle.ints.specs.Tests.{eqZ, eqZs, upTo, all}
 use Rattle.rows.specs.Limits.{unknowns}
-use Rattle.rows.specs.Row.{Row, zeroRow}
+use Rattle.rows.specs.Row.{Row}
 use Rattle.rows.specs.Form.{Form, formOf, legal, legalMultiplier}
 use Rattle.rows.specs.Sum.{Term, summedOnto}
 use Rattle.rows.specs.Conditions.{tightens, farkas, clash}
-use Rattle.ledger.specs.Ledger.{Line, Mark, Ledger, fresh, literalCount, withdrawn, opened, add}
+use Rattle.ledger.specs.Ledger.{Line, Mark, Ledger, fresh, literalCount, opened}
 use Rattle.ledger.specs.Record.{Answer, accepted, refused, Made, form, line, level}
-use Rattle.ledger.specs.Checks.{tests, makes, room}
-use Rattle.ledger.specs.Apply.{finding, Outcome, apply}
-use Rattle.ledger.specs.Settles.{proposed, stored, settles}
-use Rattle.ledger.specs.Bytes.{markOf, shape, decode, applyBytes}
-use Rattle.ledger.specs.Run.{Run, front, split, runFrom, run, Standing, refuted, notRefuted, standingFrom, standing}
+use Rattle.ledger.specs.Apply.{Outcome}
+use Rattle.ledger.specs.Bytes.{applyBytes}
+use Rattle.ledger.specs.Run.{Run, runFrom, run}
+use Rattle.ledger.specs.Split.{split}
+use Rattle.ledger.specs.Standing.{Standing, refuted, notRefuted, standingFrom, standing}
 
 -- ---- what an example says
 
@@ -29,8 +29,8 @@ pub data Expected : Type 0 where
   makesForm : ℕ → List ℤ → Expected
   -- it makes the line of this number, which has this origin and these literals
   makesLine : (number origin : ℕ) → List ℕ → Expected
-  -- it opens a level, and so many are open then; the mark is of so many forms and lines
-  opens : (levels forms lines : ℕ) → Expected
+  -- it opens a level, and so many are open then
+  opens : (levels : ℕ) → Expected
   -- it closes a level, and so many are open then; it leaves the ledger that these records leave
   closes : (levels : ℕ) → List (List ℕ) → Expected
 
@@ -76,7 +76,7 @@ hoped l (refuses k) = outcome (refused k) l
 hoped l (makesForm k cells) = outcome (accepted (form k)) (record { forms = l .forms ++ (formOf cells ∷ []); lines = l .lines; marks = l .marks })
 hoped l (makesLine k o xs) =
     outcome (accepted (line k)) (record { forms = l .forms; lines = l .lines ++ (record { origin = o; literals = xs } ∷ []); marks = l .marks })
-hoped l (opens k f i) = outcome (accepted (level k)) (record { forms = l .forms; lines = l .lines; marks = record { forms = f; lines = i } ∷ l .marks })
+hoped l (opens k) = outcome (accepted (level k)) (opened l)
 hoped l (closes k bs) = outcome (accepted (level k)) (ledgerBy bs)
 
 abbrev pub refutedLine : Standing → List ℕ
@@ -172,7 +172,7 @@ le32 z = le16 (bits z % 65536) ++ le16 (bits z / 65536)
 abbrev pub row : (c a b : ℤ) → Row
 row c a b = c ∷ a ∷ b ∷ replicate 10 (pos 0)
 
-abbrev pub fmBytes : (kind divisor : ℕ) → Row → List ℕ
+unfoldable pub fmBytes : (kind divisor : ℕ) → Row → List ℕ
 unfolding flatMap
 fmBytes k d r = (70 ∷ 77 ∷ k ∷ le16 d) ++ flatMap le32 r
 
@@ -185,7 +185,7 @@ equalToZero r = fmBytes 2 0 r
 abbrev pub dividedBy : ℕ → Row → List ℕ
 dividedBy d r = fmBytes 3 d r
 
-abbrev pub pmBytes : List ℕ → List ℕ
+unfoldable pub pmBytes : List ℕ → List ℕ
 unfolding flatMap
 pmBytes xs = 80 ∷ 77 ∷ length xs ∷ flatMap le16 xs
 
@@ -199,11 +199,11 @@ term f m = record { form = f; multiplier = m }
 abbrev pub termBytes : Term → List ℕ
 termBytes t = le16 (t .form) ++ le32 (t .multiplier)
 
-abbrev pub fkBytes : List Term → List ℕ
+unfoldable pub fkBytes : List Term → List ℕ
 unfolding flatMap
 fkBytes ts = 70 ∷ 75 ∷ length ts ∷ flatMap termBytes ts
 
-abbrev pub clBytes : List Term → List ℕ
+unfoldable pub clBytes : List Term → List ℕ
 unfolding flatMap
 clBytes ts = 67 ∷ 76 ∷ length ts ∷ flatMap termBytes ts
 
@@ -459,7 +459,7 @@ byMark =
     -- the first line lacks the pivot, the second lacks it negated
     ∷ (rsBytes 0 0 1 gives refuses 11)
     ∷ (rsBytes 1 0 1 gives refuses 11)
-    ∷ (opBytes gives opens 1 13 2)
+    ∷ (opBytes gives opens 1)
     ∷ ((79 ∷ 80 ∷ 0 ∷ []) gives refuses 3)
     ∷ ((87 ∷ 68 ∷ 0 ∷ []) gives refuses 3)
     ∷ (wdBytes gives refuses 13)
@@ -471,7 +471,7 @@ byMark =
     ∷ [])
     -- levels in levels
     ∷ after (twoLines ++ (opBytes ∷ pmBytes [] ∷ opBytes ∷ []))
-    ((opBytes gives opens 3 13 3)
+    ((opBytes gives opens 3)
     ∷ (wdBytes gives closes 1 (twoLines ++ (opBytes ∷ pmBytes [] ∷ [])))
     ∷ [])
     ∷ []
@@ -500,7 +500,7 @@ full =
     ∷ (tiBytes 0 1 (pos 3) gives refuses 7)
     ∷ (wkBytes 5 7 gives refuses 7)
     ∷ (clBytes (term 8 (pos 1) ∷ []) gives refuses 7)
-    ∷ (opBytes gives opens 1 13 512)
+    ∷ (opBytes gives opens 1)
     ∷ [])
     -- 4,095 literals, and 4,096
     ∷ after (forms 16 ++ replicate 127 (pmBytes (literals 0 32)) ++ (pmBytes (literals 0 31) ∷ []))
@@ -513,7 +513,7 @@ full =
     ∷ [])
     -- seven levels, and eight
     ∷ after (replicate 7 opBytes)
-    ((opBytes gives opens 8 0 0)
+    ((opBytes gives opens 8)
     ∷ [])
     ∷ after (replicate 8 opBytes)
     ((opBytes gives refuses 7)

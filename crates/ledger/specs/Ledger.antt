@@ -1,6 +1,8 @@
 -- A ledger: the forms, the lines and the marks of the open levels. And the four ways in which it changes.
+use mathlib.Core.Bool.{Bool, _&&_}
 use mathlib.Core.List.{List, [], _∷_, _++_}
 use Prim.Native.Nat.{ℕ, _+_}
+use lib.Dec.{leb}
 use lib.IntN.{pos}
 use lib.ListN.{length, take, getD}
 use Rattle.rows.specs.Row.{Row}
@@ -16,6 +18,9 @@ premise = 1
 
 abbrev pub derived : ℕ
 derived = 2
+
+abbrev pub isOrigin : ℕ → Bool
+isOrigin o = leb premise o && leb o derived
 
 -- the counts as a level opened; that of the literals is the total of the lines below
 pub record Mark : Type 0 where

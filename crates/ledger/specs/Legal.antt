@@ -1,17 +1,15 @@
 -- When a ledger is legal: every ledger that records make from the fresh one is.
-use mathlib.Core.Bool.{Bool, _&&_}
+use mathlib.Core.Bool.{Bool}
 use mathlib.Core.List.{List, [], _∷_}
 use Prim.Native.Nat.{ℕ, _≤_, _<_}
-use lib.Dec.{T, leb}
+use lib.Dec.{T}
 use lib.ListN.{length, take, getD}
 use Rattle.ints.specs.Tests.{all}
 use Rattle.rows.specs.Form.{legal}
 use Rattle.ledger.specs.Limits.{mostForms, mostLines, mostLiterals, mostLevels, longestLine}
 use Rattle.ledger.specs.Literals.{ascending, namesBelow}
-use Rattle.ledger.specs.Ledger.{Line, premise, derived, noLine, Mark, Ledger, literalCount}
-
-abbrev pub isOrigin : ℕ → Bool
-isOrigin o = leb premise o && leb o derived
+use Rattle.ledger.specs.Ledger.{Line, noLine, Mark, Ledger, literalCount, isOrigin}
+use Rattle.ledger.specs.Record.{marks}
 
 abbrev pub lineBelow : ℕ → Line → Bool
 lineBelow n x = namesBelow n (x .literals)

@@ -3,11 +3,15 @@ pub mod Literals
 pub mod Ledger
 pub mod Record
 pub mod Checks
+pub mod Parents
 pub mod Apply
 pub mod Settles
 pub mod Bytes
+pub mod Split
+pub mod Standing
 pub mod Run
 pub mod Truth
+pub mod Premises
 pub mod History
 pub mod Kept
 pub mod Carried

@@ -1,40 +1,13 @@
 -- A run over a stream of bytes, which feeds its records from the front, and the standing of a ledger.
 use mathlib.Core.Path.{_≡_}
 use mathlib.Core.Logic.{_⊎_}
-use mathlib.Core.Bool.{cond}
 use mathlib.Core.List.{List, [], _∷_, flatten}
-use Prim.Native.Nat.{ℕ, zero, suc, _+_, _<_}
-use lib.Dec.{eqb}
-use lib.ListN.{length, take, drop, getD}
-use Rattle.ledger.specs.Ledger.{Line, Ledger}
-use Rattle.ledger.specs.Record.{accepted, refused, isAccepted, layout}
-use Rattle.ledger.specs.Checks.{countIn}
-use Rattle.ledger.specs.Bytes.{Bearing, unknown, bears, markOf, bytesFor, countFrom, applyBytes}
-
--- ---- the records of a stream
-
--- how many bytes the front record has: what its mark and count require; all that is left where that cannot be told
-abbrev pub frontBytes : List ℕ → Bearing → ℕ
-frontBytes b unknown = length b
-frontBytes b (bears m) =
-    cond (layout m .counted)
-    (cond (countIn m (countFrom m b)) (bytesFor m (countFrom m b)) (length b))
-    (bytesFor m 0)
-
-unfoldable pub front : List ℕ → ℕ
-unfolding markOf
-front b = frontBytes b (markOf b)
-
--- as many as the first number, at most
-unfoldable pub split : ℕ → List ℕ → List (List ℕ)
-unfolding front
-split zero b = []
-split (suc k) [] = []
-split (suc k) (x ∷ b) = take (front (x ∷ b)) (x ∷ b) ∷ split k (drop (front (x ∷ b)) (x ∷ b))
-
--- each record has a byte at least
-abbrev pub recordsOf : List ℕ → List (List ℕ)
-recordsOf b = split (length b) b
+use Prim.Native.Nat.{ℕ, _+_, _<_}
+use lib.ListN.{length, take, getD}
+use Rattle.ledger.specs.Ledger.{Ledger}
+use Rattle.ledger.specs.Record.{accepted, refused, isAccepted}
+use Rattle.ledger.specs.Bytes.{applyBytes}
+use Rattle.ledger.specs.Split.{recordsOf}
 
 -- ---- the run
 
@@ -76,17 +49,3 @@ pub record Stops (n : ℕ) (l : Ledger) (bs : List (List ℕ)) (r : Run) : Type 
   pub bytes : r .bytes ≡ length (flatten (take (r .records) bs))
   pub end : ((r .stop ≡ 0) × (r .records ≡ length bs))
       ⊎ ((r .records < length bs) × (applyBytes n (r .ledger) (getD bs (r .records) []) .answer ≡ refused (r .stop)))
-
--- ---- the standing
-
-pub data Standing : Type 0 where
-  refuted : ℕ → Standing
-  notRefuted : Standing
-
--- the lowest line that is empty, counted from i
-unfoldable pub standingFrom : ℕ → List Line → Standing
-standingFrom i [] = notRefuted
-standingFrom i (x ∷ xs) = cond (eqb (length (x .literals)) 0) (refuted i) (standingFrom (suc i) xs)
-
-abbrev pub standing : Ledger → Standing
-standing l = standingFrom 0 (l .lines)

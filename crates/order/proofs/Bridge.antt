@@ -17,8 +17,10 @@ use Rattle.ledger.proofs.LegalLaws.{legal-more}
 use Rattle.session.specs.declared.state.Mark.{Mark}
 use Rattle.session.specs.declared.state.Session.{Session}
 use Rattle.session.specs.Limits.{formCells, lineCells}
-use Rattle.session.specs.Cells.{Tables, tables, noMark, countsOf, markAt, endBefore, literalsAt, lineAt, edge}
-use Rattle.session.specs.InOrder.{notAbove, isNoMark, order, allPass}
+use Rattle.session.specs.Cells.{Tables, tables, noMark, countsOf, markAt, endBefore, literalsAt, lineAt}
+use Rattle.session.specs.Parts.{edge}
+use Rattle.session.specs.InOrder.{notAbove, isNoMark, order}
+use Rattle.session.specs.Parts.{allPass}
 use Rattle.walk.specs.Walk.{LineGood}
 use Rattle.walk.proofs.LineWalk.{short-line}
 use Rattle.order.specs.Levels.{Counted, FormsGood, LevelsGood, lower}

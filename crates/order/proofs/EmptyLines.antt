@@ -15,7 +15,7 @@ use Rattle.ints.proofs.Bools.{T-same, true→T}
 use Rattle.ledger.specs.Limits.{mostLines}
 use Rattle.ledger.specs.Ledger.{Line}
 use Rattle.ledger.specs.Apply.{pass, fail}
-use Rattle.ledger.specs.Run.{refuted, notRefuted, standingFrom}
+use Rattle.ledger.specs.Standing.{refuted, notRefuted, standingFrom}
 use Rattle.session.specs.declared.state.Session.{Session}
 use Rattle.session.specs.Limits.{lineCells, poolTable, lineTable}
 use Rattle.session.specs.Cells.{Tables, named, endBefore, literalsAt, lineAt, ledgerOf}

@@ -11,8 +11,10 @@ use Rattle.ledger.specs.Checks.{Check, Passed}
 use Rattle.ledger.specs.Apply.{pass, fail, finding}
 use Rattle.ledger.proofs.Findings.{pass→passed, pass-append, passed-front, passed-back}
 use Rattle.session.specs.declared.state.Session.{Session}
-use Rattle.session.specs.Cells.{Tables, Long, named}
-use Rattle.session.specs.InOrder.{sizes, order, allPass}
+use Rattle.session.specs.Cells.{Tables, named}
+use Rattle.session.specs.Parts.{Long}
+use Rattle.session.specs.InOrder.{sizes, order}
+use Rattle.session.specs.Parts.{allPass}
 use Rattle.session.specs.Calls.{entry}
 use Rattle.session.proofs.Clauses.{Clauses, clauses}
 use Rattle.session.proofs.Starting.{sizes-long}

@@ -3,7 +3,7 @@ use mathlib.Core.Bool.{cond}
 use mathlib.Core.List.{List}
 use Prim.Native.Nat.{ℕ, zero, suc, _+_}
 use lib.Dec.{eqb}
-use Rattle.ledger.specs.Run.{refuted, notRefuted}
+use Rattle.ledger.specs.Standing.{refuted, notRefuted}
 use Rattle.session.specs.Cells.{endBefore}
 use Rattle.session.specs.Calls.{Stands, stands}
 

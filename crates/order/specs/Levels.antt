@@ -10,7 +10,8 @@ use Rattle.ledger.specs.Limits.{mostForms, mostLines, mostLiterals, mostLevels}
 use Rattle.session.specs.declared.state.Mark.{Mark}
 use Rattle.session.specs.declared.state.Session.{Session}
 use Rattle.session.specs.Limits.{lineCells, poolTable, lineTable}
-use Rattle.session.specs.Cells.{noMark, countsOf, endBefore, edge}
+use Rattle.session.specs.Cells.{noMark, countsOf, endBefore}
+use Rattle.session.specs.Parts.{edge}
 use Rattle.session.specs.InOrder.{notAbove}
 use Rattle.walk.specs.Walk.{LinesGood}
 

@@ -4,7 +4,7 @@ ghost use Prim.Native.Nat.{_≤_};
 ghost use lib.ListN.{drop};
 ghost use Rattle.ints.specs.Tests.{all};
 ghost use Rattle.ledger.specs.Limits.{mostLevels};
-ghost use Rattle.session.specs.Cells.{edge};
+ghost use Rattle.session.specs.Parts.{edge};
 ghost use Rattle.session.specs.InOrder.{notAbove, isNoMark};
 ghost use Rattle.walk.specs.Walk.{Exactly};
 ghost use Rattle.order.specs.Levels.{Below, LevelGood, LevelsGood, Passable};

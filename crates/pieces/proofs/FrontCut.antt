@@ -14,7 +14,7 @@ use Rattle.ledger.specs.Record.{Record, RecordMark, accepted, refused, layout}
 use Rattle.ledger.specs.Checks.{countIn, checks}
 use Rattle.ledger.specs.Apply.{Finding, pass, fail, finding, Outcome, judged, done, made, apply}
 use Rattle.ledger.specs.Bytes.{Bearing, unknown, bears, markOf, bytesFor, countFrom, shape, decode, applyBytes}
-use Rattle.ledger.specs.Run.{front}
+use Rattle.ledger.specs.Split.{front}
 use Rattle.ledger.proofs.Findings.{by-checks, finding-from}
 use Rattle.ledger.proofs.RuleLaws.{checks-numbered}
 use Rattle.ledger.proofs.LayoutLaws.{in-longest, count-most, list-behind}

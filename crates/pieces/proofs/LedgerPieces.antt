@@ -13,7 +13,8 @@ use Rattle.ints.proofs.Bools.{never}
 use Rattle.ledger.specs.Ledger.{Ledger}
 use Rattle.ledger.specs.Record.{Made, Answer, accepted, refused}
 use Rattle.ledger.specs.Bytes.{applyBytes}
-use Rattle.ledger.specs.Run.{front, split, recordsOf, Run, runFrom, run}
+use Rattle.ledger.specs.Split.{front, split, recordsOf}
+use Rattle.ledger.specs.Run.{Run, runFrom, run}
 use Rattle.ledger.proofs.RunLaws.{front-positive, split-covers, records-step, never-zero, run-on, run-stops, run-stops-at-first-bad}
 use Rattle.pieces.specs.Longest.{longest}
 use Rattle.pieces.proofs.FrontCut.{frontRecord, whole, wrong, short, cut, failed, still-refused, three-is-short}

@@ -6,7 +6,7 @@ use native.Mathlib.Numerals.{add-one}
 use native.Mathlib.Omega.{arith}
 use lib.ListN.{length, take, drop, getD, set, length-set, take-append-drop, drop-of-length-le}
 use lib.Seq.{length-take-le, append-snoc, drop-set-lt, take-suc-set, getD-drop, drop-drop, slice, slice-cons}
-use Rattle.pieces.specs.Step.{Kept}
+use Rattle.pieces.specs.Parts.{Kept}
 
 -- of what lies from one place up to another in b, the bytes before i are moved to the front of x, and nothing behind them has changed
 pub record Moving (b : List ℕ) (from to : ℕ) (x : List ℕ) (held i : ℕ) : Type 0 where

@@ -7,7 +7,8 @@ use Rattle.ledger.specs.Ledger.{Ledger}
 use Rattle.ledger.specs.Legal.{Legal}
 use Rattle.ledger.specs.Record.{Answer, accepted, refused}
 use Rattle.ledger.specs.Bytes.{applyBytes}
-use Rattle.ledger.specs.Run.{Run, runFrom, recordsOf, fedAll}
+use Rattle.ledger.specs.Run.{Run, runFrom, fedAll}
+use Rattle.ledger.specs.Split.{recordsOf}
 use Rattle.ledger.specs.Run as ledger
 use Rattle.ledger.proofs.Findings.{bytes-refused}
 use Rattle.ledger.proofs.LegalLaws.{legal-applyBytes}
@@ -15,7 +16,7 @@ use Rattle.ledger.proofs.RunLaws.{run-stops-at-first-bad}
 use Rattle.session.specs.Cells.{Tables, named, withExcess, ledgerOf}
 use Rattle.laid.specs.Laid.{tablesOf, sessionOf}
 use Rattle.laid.proofs.LegalLaid.{read-back}
-use Rattle.settle.specs.Settling.{Result, settled}
+use Rattle.laid.specs.Result.{Result, settled}
 use Rattle.checker.specs.Feed.{stepped, beside, feed}
 use Rattle.stream.specs.Run.{Totals, totals, eachBy, run}
 use Rattle.checker.proofs.Beside.{laid-held, named-beside, entry-beside, feed-beside}

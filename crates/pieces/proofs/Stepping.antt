@@ -10,7 +10,8 @@ use Rattle.session.specs.Answers.{findingOf}
 use Rattle.stream.specs.Run.{run, stopNumber, totalsOf}
 use Rattle.stream.specs.declared.Ran.{Ran}
 use Rattle.pieces.specs.declared.Next as code
-use Rattle.pieces.specs.Step.{total, nextBy, step, Holding, Kept, nextOf, stepOf}
+use Rattle.pieces.specs.Step.{total, nextBy, step, nextOf, stepOf}
+use Rattle.pieces.specs.Parts.{Holding, Kept}
 
 module _ (n : ℕ) (s : Session) (t : Tables) (buffer : List ℕ) (count : ℕ) (last : Bool) (r : Ran) (t' : Tables) where
   pub stepped : {end : ℕ} → Holding count buffer end → totalsOf r t' ≡ run n s t (take end buffer)

@@ -1,3 +1,4 @@
 pub mod Step
+pub mod Parts
 pub mod Pieces
 pub mod Longest

@@ -1,17 +1,16 @@
 -- One step through a proof file that comes in pieces: a run over the bytes that a buffer holds, with the totals so far, the bytes that stay
 -- for the next piece to come behind them, and whether the file is decided.
-use mathlib.Core.Path.{_≡_}
 use mathlib.Core.Bool.{Bool, not, _&&_, _||_, cond}
 use mathlib.Core.List.{List, _++_}
-use Prim.Native.Nat.{ℕ, _+_, _%_, _^_, _≤_}
+use Prim.Native.Nat.{ℕ, _+_, _%_, _^_}
 use lib.Dec.{eqb}
 use lib.ListN.{length, take, drop}
 use Rattle.session.specs.declared.state.Session.{Session}
 use Rattle.session.specs.Cells.{Tables}
 use Rattle.stream.specs.Run.{Totals, run}
-use Rattle.pieces.specs.declared.Next as code
 use Rattle.pieces.specs.declared.Next.the-variants.{GoesOn, Decided}
 use Rattle.pieces.specs.declared.Judged.{Judged}
+use Rattle.pieces.specs.declared.Next as code
 
 -- the file goes on behind so many bytes, which stay at the buffer's front; or its stopping number is decided
 pub data Next : Type 0 where
@@ -58,18 +57,6 @@ step n records bytes s t buffer count last =
     let held = take count buffer in
     let r = run n s t held in
     stepBy r records bytes buffer (drop (r .bytes) held) last
-
--- ---- the parts of the code
-
--- r bytes are what a buffer holds of count
-pub record Holding (count : ℕ) (buffer : List ℕ) (r : ℕ) : Type 0 where
-  pub within : r ≤ length buffer
-  pub held : take r buffer ≡ take count buffer
-
--- the rest is moved to the front of the buffer, and r says how long it is
-pub record Kept (rest buffer : List ℕ) (r : ℕ) (exit : List ℕ) : Type 0 where
-  pub size : r ≡ length rest
-  pub front : exit ≡ moved rest buffer
 
 -- ---- what the code gives, in these terms
 

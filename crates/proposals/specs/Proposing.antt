@@ -8,7 +8,8 @@ use Rattle.rows.specs.Form.{formOf}
 use Rattle.ledger.specs.Literals.{joined}
 use Rattle.ledger.specs.Limits.{mostForms, longestLine}
 use Rattle.ledger.specs.Ledger.{premise, derived, New, newForm, newLine}
-use Rattle.ledger.specs.Apply as ledger
+use Rattle.ledger.specs.Apply.{pass}
+use Rattle.ledger.specs.Settles as ledger
 use Rattle.session.specs.Answers.{numberOf, findingOf}
 use Rattle.session.specs.declared.answers.Verdict.{Verdict}
 use Rattle.literals.specs.Lists.{Low}
@@ -64,10 +65,10 @@ ProposesBy v x r xs ys = (cells : List ℤ) → Proposes r cells xs ys (ledger.p
 
 -- where a verdict passes, forms are low enough for their literals
 abbrev pub LowTwo : Verdict → ℕ → ℕ → Type 0
-LowTwo v a b = findingOf v ≡ ledger.pass → (a < mostForms) × (b < mostForms)
+LowTwo v a b = findingOf v ≡ pass → (a < mostForms) × (b < mostForms)
 
 abbrev pub LowThree : Verdict → ℕ → ℕ → ℕ → Type 0
-LowThree v a b c = findingOf v ≡ ledger.pass → (a < mostForms) × (b < mostForms) × (c < mostForms)
+LowThree v a b c = findingOf v ≡ pass → (a < mostForms) × (b < mostForms) × (c < mostForms)
 
 abbrev pub LowAll : Verdict → List ℕ → Type 0
-LowAll v picks = findingOf v ≡ ledger.pass → Low picks
+LowAll v picks = findingOf v ≡ pass → Low picks

@@ -13,7 +13,7 @@ use Rattle.ledger.specs.Record.{RecordMark, layout}
 use Rattle.ledger.specs.Checks.{countIn}
 use Rattle.ledger.specs.Apply.{pass, fail, finding}
 use Rattle.ledger.specs.Bytes.{unknown, bears, markOf, bytesFor, countFrom, shape}
-use Rattle.ledger.specs.Run.{front}
+use Rattle.ledger.specs.Split.{front}
 use Rattle.ledger.proofs.LayoutLaws.{two-letters, count-behind, list-behind}
 use Rattle.records.specs.Marks.{Whole, Misshapen, Requires}
 use Rattle.records.proofs.MarkLaws.{no-mark}

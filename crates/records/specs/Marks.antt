@@ -6,7 +6,7 @@ use lib.ListN.{length, take}
 use Rattle.ledger.specs.Record as ledger
 use Rattle.ledger.specs.Apply.{pass, fail, finding}
 use Rattle.ledger.specs.Bytes as bytes
-use Rattle.ledger.specs.Run.{front}
+use Rattle.ledger.specs.Split.{front}
 use Rattle.session.specs.Answers.{numberOf}
 use Rattle.records.specs.declared.marks.RecordMark.{RecordMark}
 use Rattle.records.specs.declared.marks.RecordMark.the-variants.{Rule, Op, Wd}

@@ -7,7 +7,8 @@ use native.Mathlib.Omega.{arith}
 use lib.IntN.{ℤ, pos}
 use lib.ListN.{length, getD, take, drop, length-take, length-drop}
 use lib.Seq.{getD-take, getD-drop, drop-drop, take-nil}
-use Rattle.rows.specs.Form.{formAt, rowAt, Inside}
+use Rattle.rows.specs.Form.{formAt}
+use Rattle.rows.specs.Summable.{rowAt, Inside}
 
 drop-take : {A : Type 0} (m k : ℕ) (l : List A) → drop m (take (m + k) l) ≡ take k (drop m l)
 drop-take zero k l = let e : 0 + k ≡ k = omega arith in rw e

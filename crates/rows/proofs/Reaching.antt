@@ -13,7 +13,7 @@ use Rattle.ints.proofs.Bools.{never}
 use Rattle.ints.proofs.Divides.{divides-zero}
 use Rattle.rows.specs.declared.Reached.the-variants.{Coefficient, Constant}
 use Rattle.rows.specs.Row.{Row, constant, coefficients}
-use Rattle.rows.specs.Sum.{lowest, reached}
+use Rattle.rows.specs.Summable.{lowest, reached}
 use Rattle.rows.specs.Conditions.{farkas, clash}
 
 lowest-constant : (d y : ℤ) (n : ℕ) (ks : List ℤ) (z : ℤ) → lowest d y n ks ≡ Constant z → (all (divides d) ks ≡ true) × (y ≡ z)

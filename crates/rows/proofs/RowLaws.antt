@@ -11,7 +11,7 @@ use lib.Seq.{drop-cons, take-all}
 use Rattle.ints.specs.Tests.{eqZ, eqZs}
 use Rattle.ints.proofs.Ring.{one-mul}
 use Rattle.rows.specs.Row.{Row, scaled, shifted}
-use Rattle.rows.specs.Form.{rowAt, Inside}
+use Rattle.rows.specs.Summable.{rowAt, Inside}
 use Rattle.rows.proofs.FormCells.{length-row}
 
 pub scaled-one : (r : Row) → scaled (pos 1) r ≡ r

@@ -15,9 +15,11 @@ use mathlib.Core.Bool.{true, false}
 use Rattle.ints.specs.Tests.{all, divides}
 use Rattle.rows.specs.declared.Reached.the-variants.{Coefficient, Constant}
 use Rattle.rows.specs.Row.{Row, zeroRow, plus, scaled}
-use Rattle.rows.specs.Sum.{Term, terms, summedOnto, summed, lowest, summand, Summable, Addable, Small}
+use Rattle.rows.specs.Sum.{Term, summedOnto, summed}
+use Rattle.rows.specs.Summable.{terms, lowest, summand, Summable, Addable, Small}
 use Rattle.rows.specs.Limits.{largestNumber, largestMultiplier}
-use Rattle.rows.specs.Form.{rowAt, inRange}
+use Rattle.rows.specs.Summable.{rowAt}
+use Rattle.rows.specs.Form.{inRange}
 use Rattle.rows.proofs.FormCells.{length-row}
 use Rattle.rows.proofs.TermLaws.{Summand, summand→, length-terms, next-term}
 

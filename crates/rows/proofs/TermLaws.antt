@@ -16,8 +16,10 @@ use Rattle.ints.proofs.Bools.{T-and, true→T, T→true, T→false}
 use Rattle.ints.proofs.Lists.{all-at}
 use Rattle.ints.proofs.Size.{within}
 use Rattle.rows.specs.Limits.{largestMultiplier, mostTerms}
-use Rattle.rows.specs.Form.{rowAt, inRange, Inside}
-use Rattle.rows.specs.Sum.{Term, terms, summand, summable, Summable}
+use Rattle.rows.specs.Summable.{rowAt, Inside}
+use Rattle.rows.specs.Form.{inRange}
+use Rattle.rows.specs.Sum.{Term}
+use Rattle.rows.specs.Summable.{terms, summand, summable, Summable}
 
 abbrev pub term : ℕ → ℤ → Term
 term f m = record { form = f; multiplier = m }

@@ -1,7 +1,7 @@
 -- A form is a kind, a divisor and a row. How it lies in a table's cells, and which contents are legal.
 use mathlib.Core.Bool.{Bool, not, _&&_, cond}
 use mathlib.Core.List.{List, _∷_}
-use Prim.Native.Nat.{ℕ, _+_, _*_, _≤_}
+use Prim.Native.Nat.{ℕ, _+_, _*_}
 use lib.Dec.{eqb}
 use lib.IntN.{ℤ, pos, negℤ}
 use lib.ListN.{length, getD, take, drop}
@@ -40,13 +40,6 @@ cellsAt n table f = take (n + 3) (drop ((n + 3) * f) table)
 
 abbrev pub formAt : ℕ → List ℤ → ℕ → Form
 formAt n table f = formOf (cellsAt n table f)
-
-abbrev pub rowAt : ℕ → List ℤ → ℕ → Row
-rowAt n table f = formAt n table f .row
-
--- the table has form f
-pub record Inside (n : ℕ) (table : List ℤ) (f : ℕ) : Type 0 where
-  pub inside : (n + 3) * f + (n + 3) ≤ length table
 
 -- ---- legal content
 

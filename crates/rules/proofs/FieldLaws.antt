@@ -9,7 +9,8 @@ use lib.Dec.{T, ltb→lt}
 use lib.IntN.{ℤ}
 use lib.ListN.{length, take}
 use Rattle.rows.specs.Row.{Row}
-use Rattle.rows.specs.Form.{Form, formOf, rowAt, legal, Inside}
+use Rattle.rows.specs.Form.{Form, formOf, legal}
+use Rattle.rows.specs.Summable.{rowAt, Inside}
 use Rattle.ledger.specs.Limits.{mostForms}
 use Rattle.ledger.specs.Ledger.{Line, nthRow, newForm}
 use Rattle.ledger.specs.Record.{Rule, make, FM, PM}

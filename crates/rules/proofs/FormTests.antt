@@ -11,7 +11,8 @@ use mir.Val.{ofZ, SFits}
 use Rattle.ints.specs.Tests.{eqZ, all}
 use Rattle.ints.proofs.Bits.{bits-same, bits-differ}
 use Rattle.rows.specs.Row.{Row}
-use Rattle.rows.specs.Form.{Form, formAt, rowAt}
+use Rattle.rows.specs.Form.{Form, formAt}
+use Rattle.rows.specs.Summable.{rowAt}
 use Rattle.ledger.specs.Literals.{namesBelow}
 use Rattle.ledger.specs.Ledger.{nthRow}
 use Rattle.ledger.specs.Checks.{formIn, literalIn, isKind}

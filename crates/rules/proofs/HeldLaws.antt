@@ -8,7 +8,8 @@ use lib.Dec.{T}
 use lib.IntN.{ℤ}
 use lib.ListN.{length, length-take}
 use Rattle.ints.proofs.Lists.{length-upTo}
-use Rattle.rows.specs.Form.{formAt, legal, Inside}
+use Rattle.rows.specs.Form.{formAt, legal}
+use Rattle.rows.specs.Summable.{Inside}
 use Rattle.ledger.specs.Limits.{mostForms, longestLine}
 use Rattle.ledger.specs.Ledger.{Line, noForm, noLine, nthForm, nthLine}
 use Rattle.ledger.specs.Record.{Rule}

@@ -13,7 +13,7 @@ use Rattle.ints.proofs.Bools.{T-and, and-T}
 use Rattle.rows.specs.Form.{formAt, legal}
 use Rattle.ledger.specs.Limits.{mostForms, mostLines, mostLiterals, mostLevels, longestLine}
 use Rattle.ledger.specs.Literals.{ascending, namesBelow}
-use Rattle.ledger.specs.Legal.{isOrigin}
+use Rattle.ledger.specs.Ledger.{isOrigin}
 use Rattle.ledger.specs.Checks.{Passed}
 use Rattle.session.specs.declared.state.Mark.{Mark}
 use Rattle.session.specs.declared.state.Session.{Session}

@@ -15,7 +15,8 @@ use Rattle.session.specs.declared.answers.Start.the-variants.{Started, R
 use Rattle.session.specs.declared.answers.Verdict.{Verdict}
 use Rattle.session.specs.declared.answers.Verdict.the-variants.{Pass, Fail}
 use Rattle.session.specs.Limits.{formTable, poolTable, lineTable}
-use Rattle.session.specs.Cells.{Tables, tables, Long, excess, withExcess, freshSession}
+use Rattle.session.specs.Cells.{Tables, tables, excess, withExcess, freshSession}
+use Rattle.session.specs.Parts.{Long}
 use Rattle.session.specs.InOrder.{sizes}
 use Rattle.session.specs.Answers.{findingOf}
 use Rattle.session.specs.Calls.{start, beginningOf}

@@ -4,7 +4,7 @@ use Prim.Native.Nat.{ℕ}
 use lib.IntN.{pos}
 use lib.ListN.{replicate}
 use Rattle.ledger.specs.Apply.{Finding, pass, fail, finding}
-use Rattle.ledger.specs.Run as ledger
+use Rattle.ledger.specs.Standing as ledger
 use Rattle.session.specs.declared.state.Session.{Session}
 use Rattle.session.specs.declared.answers.Start.{Start}
 use Rattle.session.specs.declared.answers.Start.the-variants as Starts

@@ -1,21 +1,16 @@
 -- What a session and its tables hold, cell by cell, and the ledger that is read from them.
-use mathlib.Core.Path.{_≡_}
-use mathlib.Core.Bool.{cond}
 use mathlib.Core.List.{List, [], _∷_, _++_}
-use Prim.Native.Nat.{ℕ, zero, suc, _+_, _*_, _-_, _≤_}
-use lib.Dec.{ltb}
-use lib.IntN.{ℤ, pos}
-use lib.ListN.{length, getD, take, drop, replicate}
+use Prim.Native.Nat.{ℕ, zero, suc, _+_, _*_, _-_}
+use lib.IntN.{ℤ}
+use lib.ListN.{getD, take, drop, replicate}
 use denote.Ref.{RefT, now}
 use denote.Triple.Both.{Both}
 use Rattle.ints.specs.Tests.{upTo}
 use Rattle.rows.specs.Form.{formAt}
-use Rattle.rows.specs.Limits.{unknowns, largestNumber, largestDivisor, largestMultiplier, mostTerms}
-use Rattle.ledger.specs.Limits.{mostForms, mostLines, mostLiterals, mostLevels, longestLine}
+use Rattle.ledger.specs.Limits.{mostLevels}
 use Rattle.ledger.specs.Ledger.{Line, Ledger, Mark as LedgerMark}
 use Rattle.session.specs.declared.state.Mark.{Mark}
 use Rattle.session.specs.declared.state.Session.{Session}
-use Rattle.session.specs.declared.state.Limits.{Limits}
 use Rattle.session.specs.Limits.{lineCells, formTable, poolTable, lineTable}
 
 pub record Tables : Type 0 where
@@ -36,18 +31,6 @@ asLent f p l = asGiven (f .entry) (p .entry) (l .entry)
 abbrev pub asLeft : {X Y Z : Type 0} → Both X (RefT (List ℤ)) → Both Y (RefT (List ℕ)) → Both Z (RefT (List ℕ)) → Tables
 asLeft f p l = asGiven (f .exit) (p .exit) (l .exit)
 
--- the tables have their named cells at least
-pub record Long (n : ℕ) (t : Tables) : Type 0 where
-  pub form-room : formTable n ≤ length (t .forms)
-  pub pool-room : poolTable ≤ length (t .pool)
-  pub line-room : lineTable ≤ length (t .lines)
-
--- the tables are cut to their named cells
-pub record Sized (n : ℕ) (t : Tables) : Type 0 where
-  pub form-size : length (t .forms) ≡ formTable n
-  pub pool-size : length (t .pool) ≡ poolTable
-  pub line-size : length (t .lines) ≡ lineTable
-
 -- the cells that have a name
 abbrev pub named : ℕ → Tables → Tables
 named n t = tables (take (formTable n) (t .forms)) (take poolTable (t .pool)) (take lineTable (t .lines))
@@ -63,21 +46,6 @@ withExcess t x = tables (t .forms ++ x .forms) (t .pool ++ x .pool) (t .lines ++
 
 abbrev pub noMark : Mark
 noMark = record { forms = 0; lines = 0; literals = 0 }
-
-abbrev pub allLimits : Limits
-allLimits =
-    record {
-      unknowns = unknowns;
-      number = pos largestNumber;
-      divisor = pos largestDivisor;
-      multiplier = pos largestMultiplier;
-      terms = mostTerms;
-      forms = mostForms;
-      lines = mostLines;
-      literals = mostLiterals;
-      levels = mostLevels;
-      line = longestLine;
-    }
 
 abbrev pub freshSession : Session
 freshSession = record { forms = 0; lines = 0; literals = 0; «open» = 0; marks = replicate mostLevels noMark }
@@ -128,8 +96,3 @@ ledgerOf n s t =
       lines = upTo (s .lines) (lineAt t);
       marks = downFrom (s .«open») (levelAt s);
     }
-
--- ---- edges: the marks of the open levels and then the present counts
-
-abbrev pub edge : Session → ℕ → Mark
-edge s i = cond (ltb i (s .«open»)) (markAt s i) (countsOf s)

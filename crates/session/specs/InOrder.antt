@@ -9,7 +9,7 @@ use Rattle.ints.specs.Tests.{eqZ, all}
 use Rattle.rows.specs.Form.{formAt, legal}
 use Rattle.ledger.specs.Limits.{mostForms, mostLines, mostLiterals, mostLevels, longestLine}
 use Rattle.ledger.specs.Literals.{ascending, namesBelow}
-use Rattle.ledger.specs.Legal.{isOrigin}
+use Rattle.ledger.specs.Ledger.{isOrigin}
 use Rattle.ledger.specs.Checks.{Check, _else_}
 use Rattle.session.specs.declared.state.Mark.{Mark}
 use Rattle.session.specs.declared.state.Session.{Session}
@@ -73,8 +73,3 @@ order n s t =
     ∷ (all (λ c. eqb c 0) (drop (lineCells * s .lines) (t .lines)) else 2)
     ∷ (all isNoMark (drop (s .«open») (s .marks)) else 2)
     ∷ []
-
--- whether every test passes
-unfoldable pub allPass : List Check → Bool
-allPass [] = true
-allPass (c ∷ cs) = c .passes && allPass cs

@@ -1,6 +1,7 @@
 // The session itself, by value, with its limits: each has one name here, and those of rows and forms are taken from the rows.
 ghost use mathlib.Core.Path.{_≡_};
-ghost use Rattle.session.specs.Cells.{freshSession, countsOf, allLimits};
+ghost use Rattle.session.specs.Cells.{freshSession, countsOf};
+ghost use Rattle.session.specs.Parts.{allLimits};
 
 // The counts as a level opened.
 pub struct Mark {

@@ -20,7 +20,7 @@ use Rattle.session.specs.Effects.{withForm, formWritten, withLine, literalsWrit
 use Rattle.laid.specs.Held.{Held}
 use Rattle.laid.proofs.Writes.{form-written, line-written, level-opened, level-room, level-closed}
 use Rattle.laid.proofs.HeldLaws.{held-clauses, held-legal, held-session, held-tables, form-count, line-count, literal-count, level-count}
-use Rattle.settle.specs.Settling.{Result, unchanged, settled}
+use Rattle.laid.specs.Result.{Result, unchanged, settled}
 
 -- an acceptance
 abbrev pub changed : Made → Session → Tables → Result

@@ -17,7 +17,8 @@ use Rattle.session.specs.Effects.{formWritten, literalsWritten, lineWritten, fr
 use Rattle.laid.specs.Held.{Held}
 use Rattle.laid.proofs.HeldLaws.{held-clauses}
 use Rattle.settle.specs.declared.Top.{Top}
-use Rattle.settle.specs.Settling.{withCounts, settled, topOf, Seen}
+use Rattle.settle.specs.Settling.{withCounts, topOf, Seen}
+use Rattle.laid.specs.Result.{settled}
 use Rattle.settle.proofs.OnLedger.{changed, form-kept, line-kept, level-opens, level-fits, level-closes}
 
 -- what is read of a session is its top

@@ -16,29 +16,12 @@ use Rattle.session.specs.Cells.{Tables, tables, countsOf, ledgerOf}
 use Rattle.session.specs.Effects.{lastMark}
 use Rattle.session.specs.declared.state.Mark.{Mark}
 use Rattle.session.specs.Answers.{numberOf, madeOf}
-use Rattle.laid.specs.Laid.{tablesOf, sessionOf}
+use Rattle.laid.specs.Result.{Result, settled}
 use Rattle.laid.specs.Held.{Held}
 use Rattle.settle.specs.declared.Change.{Change}
 use Rattle.settle.specs.declared.Change.the-variants.{Refused, Adds, Moves}
 use Rattle.settle.specs.declared.Levels.{Levels}
 use Rattle.settle.specs.declared.Top.{Top}
-
-pub record Result : Type 0 where
-  pub answer : Answer
-  pub session : Session
-  pub tables : Tables
-
--- a refusal leaves session and tables as they stood
-abbrev pub unchanged : ℕ → Session → Tables → Result
-unchanged k s t = record { answer = refused k; session = s; tables = t }
-
--- what happens to the ledger, laid out again where it is accepted
-abbrev pub settled : ℕ → Session → Tables → Outcome → Result
-settled n s t o =
-    elim (o .answer) [
-      | accepted m ↦ record { answer = accepted m; session = sessionOf (o .ledger); tables = tablesOf n (o .ledger) }
-      | refused k ↦ unchanged k s t
-    ]
 
 -- ---- what the code gives, in these terms
 

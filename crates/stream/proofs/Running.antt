@@ -13,7 +13,7 @@ use Rattle.ledger.specs.Ledger.{Ledger}
 use Rattle.ledger.specs.Bytes.{applyBytes}
 use Rattle.ledger.specs.Record.{RecordMark, Made, Answer, accepted, refused}
 use Rattle.ledger.specs.Apply.{pass, fail}
-use Rattle.ledger.specs.Run.{front, split, recordsOf}
+use Rattle.ledger.specs.Split.{front, split, recordsOf}
 use Rattle.ledger.proofs.RunLaws.{front-positive, records-step}
 use Rattle.session.specs.declared.state.Mark.{Mark}
 use Rattle.session.specs.declared.state.Session.{Session}
@@ -26,9 +26,12 @@ use Rattle.records.specs.Marks.{Whole, Misshapen}
 use Rattle.settle.specs.declared.Change.{Change}
 use Rattle.settle.specs.declared.Change.the-variants.{Refused}
 use Rattle.settle.specs.declared.Top.{Top}
-use Rattle.settle.specs.Settling.{Result, unchanged, settled, after, answerBy, InPlace, resultBy, topOf}
-use Rattle.checker.specs.Feed.{stepped, feed, Changes}
-use Rattle.stream.specs.Run.{Totals, totals, eachBy, run, sessionWith, FrontStep}
+use Rattle.laid.specs.Result.{Result, unchanged, settled}
+use Rattle.settle.specs.Settling.{after, answerBy, InPlace, resultBy, topOf}
+use Rattle.checker.specs.Feed.{stepped, feed}
+use Rattle.checker.specs.Changes.{Changes}
+use Rattle.stream.specs.Run.{Totals, totals, eachBy, run}
+use Rattle.stream.specs.Walk.{sessionWith, FrontStep}
 use Rattle.settle.proofs.OnLedger.{changed}
 use Rattle.checker.proofs.Beside.{restored, feed-beside, held-again}
 use Rattle.checker.proofs.Feeding.{entry-held}

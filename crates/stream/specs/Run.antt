@@ -1,22 +1,18 @@
 -- What the call run does: the records and the bytes that it accepts, the number that stops it, the session and every lent cell afterwards,
 -- for every input.
-use mathlib.Core.Path.{_≡_}
 use mathlib.Core.List.{List, [], _∷_}
-use Prim.Native.Nat.{ℕ, _+_, _≤_}
-use lib.ListN.{length, take}
+use Prim.Native.Nat.{ℕ, _+_}
+use lib.ListN.{length}
 use Rattle.ledger.specs.Record.{accepted, refused}
 use Rattle.ledger.specs.Apply.{Finding, pass, fail}
-use Rattle.ledger.specs.Run.{front, recordsOf}
-use Rattle.session.specs.declared.state.Mark.{Mark}
+use Rattle.ledger.specs.Split.{recordsOf}
 use Rattle.session.specs.declared.state.Session.{Session}
 use Rattle.session.specs.Cells.{Tables}
 use Rattle.session.specs.Calls.{entry}
 use Rattle.session.specs.Answers.{findingOf}
+use Rattle.laid.specs.Result.{Result}
+use Rattle.checker.specs.Feed.{feed}
 use Rattle.stream.specs.declared.Ran.{Ran}
-use Rattle.settle.specs.declared.Change.{Change}
-use Rattle.settle.specs.declared.Top.{Top}
-use Rattle.settle.specs.Settling.{Result}
-use Rattle.checker.specs.Feed.{feed, Changes}
 
 pub record Totals : Type 0 where
   pub records : ℕ
@@ -53,15 +49,3 @@ stopNumber (fail k) = k
 
 abbrev pub totalsOf : Ran → Tables → Totals
 totalsOf r t = totals (r .records) (r .bytes) (stopNumber (findingOf (r .stop))) (r .session) t
-
--- ---- the parts of the walk
-
--- the session of these counts and levels
-abbrev pub sessionWith : Mark → ℕ → List Mark → Session
-sessionWith m k marks = record { forms = m .forms; lines = m .lines; literals = m .literals; «open» = k; marks = marks }
-
--- the front record of b has so many bytes, and the change, with the cells t', is what it does
-pub record FrontStep (n : ℕ) (top : Top) (t : Tables) (b : List ℕ) (c : Change) (size : ℕ) (t' : Tables) : Type 0 where
-  pub within : size ≤ length b
-  pub taken : take size b ≡ take (front b) b
-  pub changes : Changes n top t (take size b) c t'

@@ -2,14 +2,15 @@
 ghost use mathlib.Core.Path.{_≡_};
 ghost use lib.ListN.{length};
 ghost use Rattle.rows.specs.Limits.{unknowns, mostTerms};
-ghost use Rattle.ledger.specs.Run.{recordsOf};
+ghost use Rattle.ledger.specs.Split.{recordsOf};
 ghost use Rattle.session.specs.Answers.{findingOf};
 ghost use Rattle.session.specs.Cells.{Tables, asGiven, asLent, asLeft};
 ghost use Rattle.laid.specs.Held.{Held};
 ghost use Rattle.proposals.specs.Proposing.{Scratch};
 ghost use Rattle.settle.specs.Settling.{Seen};
 ghost use Rattle.checker.specs.Feed.{stepped};
-ghost use Rattle.stream.specs.Run.{totals, eachBy, run, stopNumber, totalsOf, sessionWith, FrontStep};
+ghost use Rattle.stream.specs.Run.{totals, eachBy, run, stopNumber, totalsOf};
+ghost use Rattle.stream.specs.Walk.{sessionWith, FrontStep};
 use checker::change;
 use records::shape::Front;
 use session::answers::Verdict;

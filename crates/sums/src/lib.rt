@@ -3,8 +3,9 @@ ghost use mathlib.Core.Path.{_≡_};
 ghost use Prim.Native.Nat.{_+_, _<_};
 ghost use Rattle.rows.specs.Limits.{unknowns};
 ghost use Rattle.rows.specs.Row.{plus, scaled};
-ghost use Rattle.rows.specs.Form.{rowAt};
-ghost use Rattle.rows.specs.Sum.{terms, summed, reached, Summable, Addable, Small};
+ghost use Rattle.rows.specs.Summable.{rowAt};
+ghost use Rattle.rows.specs.Summable.{terms, reached, Summable, Addable, Small};
+ghost use Rattle.rows.specs.Sum.{summed};
 use rows::Reached;
 
 pub mod summable;

@@ -1,7 +1,7 @@
 // Whether picked rows can be summed without a wrap: the test of what the sum asks of its caller.
 ghost use mathlib.Core.Path.{_≡_};
 ghost use Rattle.rows.specs.Limits.{unknowns};
-ghost use Rattle.rows.specs.Sum.{summand, summable};
+ghost use Rattle.rows.specs.Summable.{summand, summable};
 
 // Whether form f of the table may be added m times.
 fn is_summand(table: &[i32], f: u16, m: i32) -> bool

@@ -13,7 +13,8 @@ use Rattle.ints.proofs.Lists.{all-at}
 use Rattle.ledger.specs.Limits.{longestLine}
 use Rattle.rows.specs.Limits.{mostTerms}
 use Rattle.rows.specs.Form.{Form}
-use Rattle.rows.specs.Sum.{Term, terms}
+use Rattle.rows.specs.Sum.{Term}
+use Rattle.rows.specs.Summable.{terms}
 use Rattle.ledger.specs.Record.{behindLetters}
 use Rattle.ledger.specs.Checks.{Check, _else_, formIn, formsOf}
 use Rattle.ledger.specs.Apply.{Finding, pass, finding}

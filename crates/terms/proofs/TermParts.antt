@@ -13,7 +13,8 @@ use Rattle.ints.proofs.Bools.{T-and, T-same}
 use Rattle.rows.specs.Limits.{largestMultiplier}
 use Rattle.rows.specs.Row.{Row, plus, scaled}
 use Rattle.rows.specs.Form.{Form, atMost, isZero, isDivided, inRange, legalDivisor, legal, legalMultiplier}
-use Rattle.rows.specs.Sum.{Term, terms, summedOnto}
+use Rattle.rows.specs.Sum.{Term, summedOnto}
+use Rattle.rows.specs.Summable.{terms}
 use Rattle.ledger.specs.Ledger.{nthForm}
 use Rattle.ledger.specs.Checks.{formsOf, firstDivisor}
 

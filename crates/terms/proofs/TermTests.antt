@@ -10,8 +10,10 @@ use lib.ListN.{length, getD}
 use Rattle.ints.specs.Tests.{eqZ, between, all}
 use Rattle.ints.proofs.Bools.{T-and, and-T, T→true, true→T}
 use Rattle.ints.proofs.Lists.{all-at, all-implies, all-agree, all-map}
-use Rattle.rows.specs.Form.{Form, formAt, rowAt, inRange, legalMultiplier}
-use Rattle.rows.specs.Sum.{Term, terms, summed, summand, Summable}
+use Rattle.rows.specs.Form.{Form, formAt, inRange, legalMultiplier}
+use Rattle.rows.specs.Summable.{rowAt}
+use Rattle.rows.specs.Sum.{Term, summed}
+use Rattle.rows.specs.Summable.{terms, summand, Summable}
 use Rattle.ledger.specs.Literals.{ascending}
 use Rattle.ledger.specs.Ledger.{nthForm, nthRow}
 use Rattle.ledger.specs.Checks.{Check, _else_, formIn, formsOf, divisorIs, firstDivisor}

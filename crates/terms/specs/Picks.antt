@@ -7,7 +7,8 @@ use lib.IntN.{ℤ}
 use lib.ListN.{length, getD}
 use Rattle.ints.specs.Tests.{between}
 use Rattle.rows.specs.Limits.{mostTerms}
-use Rattle.rows.specs.Form.{Inside, legalMultiplier}
+use Rattle.rows.specs.Summable.{Inside}
+use Rattle.rows.specs.Form.{legalMultiplier}
 
 -- every picked form lies in the table
 pub record Picked (n : ℕ) (forms : List ℤ) (picks : List ℕ) : Type 0 where

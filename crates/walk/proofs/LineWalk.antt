@@ -15,7 +15,7 @@ use Rattle.ints.proofs.Bools.{T-and, and-T, true→T}
 use Rattle.ledger.specs.Limits.{longestLine}
 use Rattle.ledger.specs.Ledger.{premise, derived}
 use Rattle.ledger.specs.Literals.{below, namesBelow, ascendingFrom, ascending}
-use Rattle.ledger.specs.Legal.{isOrigin}
+use Rattle.ledger.specs.Ledger.{isOrigin}
 use Rattle.session.specs.Limits.{lineCells}
 use Rattle.session.specs.Cells.{endBefore, originAt, literalsAt}
 use Rattle.walk.specs.Walk.{LineGood}

@@ -3,12 +3,12 @@
 use mathlib.Core.List.{map}
 use Prim.Native.Nat.{ℕ}
 use Rattle.ledger.specs.Record.{Made, form, line, level, Answer, accepted, refused}
-use Rattle.ledger.specs.Run.{refuted, notRefuted}
+use Rattle.ledger.specs.Standing.{refuted, notRefuted}
 use Rattle.session.specs.declared.state.Mark.{Mark as InnerMark}
 use Rattle.session.specs.declared.state.Session.{Session as InnerSession}
 use Rattle.session.specs.Cells.{Tables}
 use Rattle.session.specs.Calls.{Started, started, notStarted, Beginning, Stands as Stood, stands, noStanding}
-use Rattle.settle.specs.Settling.{Result}
+use Rattle.laid.specs.Result.{Result}
 use Rattle.stream.specs.Run.{Totals}
 use Rattle.zarnowiej.specs.declared.plain.Mark.{Mark}
 use Rattle.zarnowiej.specs.declared.plain.Session.{Session}

@@ -8,7 +8,8 @@ use lib.Dec.{T}
 use Rattle.ints.proofs.Bools.{true→T, T→false, T-same}
 use Rattle.rows.specs.Limits.{unknowns}
 use Rattle.session.specs.Cells.{Tables, tables}
-use Rattle.session.specs.InOrder.{order, allPass}
+use Rattle.session.specs.InOrder.{order}
+use Rattle.session.specs.Parts.{allPass}
 use Rattle.order.specs.Levels.{Counted}
 use Rattle.walk.proofs.Says.{denied}
 use Rattle.order.proofs.Bridge.{Found, found, in-order}

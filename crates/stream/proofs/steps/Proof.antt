@@ -13,7 +13,7 @@ use Rattle.session.specs.Cells.{Tables, tables, countsOf, markAt}
 use Rattle.laid.proofs.HeldLaws.{held-clauses}
 use Rattle.settle.specs.Settling.{topOf}
 use Rattle.settle.proofs.Tops.{top-is}
-use Rattle.stream.specs.Run.{sessionWith}
+use Rattle.stream.specs.Walk.{sessionWith}
 use Rattle.stream.proofs.Running.{Underway, sets-out, set-out, arrives, Turn, turns}
 use Rattle.stream.proofs.steps.Statement.{statement}
 use Rattle.stream.proofs.steps.Tie as tie

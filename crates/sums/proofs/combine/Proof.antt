@@ -3,7 +3,7 @@ use mathlib.Core.Path.{ap₂, _∙_}
 use mir.Syntax.{w32}
 use mir.ValLaws.{toZ-ofZ}
 use Rattle.rows.specs.Limits.{unknowns}
-use Rattle.rows.specs.Sum.{reached}
+use Rattle.rows.specs.Summable.{reached}
 use Rattle.rows.proofs.SumLaws.{small-sums}
 use borrow.Author.Needs.{needs}
 use Rattle.sums.proofs.combine.Statement.{statement}

@@ -12,7 +12,7 @@ use mir.ValLaws.{toZ-ofZ}
 use Rattle.ints.specs.Tests.{divides}
 use Rattle.rows.specs.Limits.{unknowns}
 use Rattle.rows.specs.declared.Reached.the-variants.{Coefficient, Constant}
-use Rattle.rows.specs.Sum.{lowest, reached}
+use Rattle.rows.specs.Summable.{lowest, reached}
 use Rattle.rows.proofs.SumLaws.{lowest-next, lowest-stop, lowest-over}
 use Rattle.sums.proofs.lowest.Statement.{statement}
 use Rattle.sums.proofs.lowest.Tie as tie

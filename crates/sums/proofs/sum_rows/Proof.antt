@@ -10,8 +10,9 @@ use mir.Val.{SFits}
 use mir.ValLaws.{toZ-ofZ}
 use Rattle.rows.specs.Limits.{unknowns}
 use Rattle.rows.specs.Row.{plus, scaled}
-use Rattle.rows.specs.Form.{rowAt}
-use Rattle.rows.specs.Sum.{terms, summedOnto, summed}
+use Rattle.rows.specs.Summable.{rowAt}
+use Rattle.rows.specs.Summable.{terms}
+use Rattle.rows.specs.Sum.{summedOnto, summed}
 use Rattle.rows.proofs.TermLaws.{summand-at}
 use Rattle.rows.proofs.SumLaws.{Within, largestTerm, within-zeros, grown, room, length-grown, sum-step, sum-over}
 use Rattle.sums.proofs.sum_rows.Statement.{statement}

@@ -12,8 +12,10 @@ use mir.ValLaws.{toZ-ofZ}
 use Rattle.ints.specs.Tests.{all, divides, eqZ}
 use Rattle.rows.specs.Limits.{unknowns}
 use Rattle.rows.specs.Row.{Row}
-use Rattle.rows.specs.Form.{isDivided, rowAt}
-use Rattle.rows.specs.Sum.{terms, summed, reached, Summable}
+use Rattle.rows.specs.Form.{isDivided}
+use Rattle.rows.specs.Summable.{rowAt}
+use Rattle.rows.specs.Summable.{terms, reached, Summable}
+use Rattle.rows.specs.Sum.{summed}
 use Rattle.rows.specs.Conditions.{clash}
 use Rattle.rows.proofs.Reaching.{reached-constant, clash-reached, clash-stray}
 use Rattle.rows.proofs.SumLaws.{small-sums}

@@ -13,8 +13,10 @@ use Rattle.ints.specs.Tests.{all, eqZ}
 use Rattle.ints.proofs.Order.{lt→not-le, not-lt→le}
 use Rattle.rows.specs.Limits.{unknowns}
 use Rattle.rows.specs.Row.{Row}
-use Rattle.rows.specs.Form.{atMost, isZero, rowAt}
-use Rattle.rows.specs.Sum.{terms, summed}
+use Rattle.rows.specs.Form.{atMost, isZero}
+use Rattle.rows.specs.Summable.{rowAt}
+use Rattle.rows.specs.Summable.{terms}
+use Rattle.rows.specs.Sum.{summed}
 use Rattle.rows.specs.Conditions.{farkas}
 use Rattle.rows.proofs.Reaching.{farkas-reached, farkas-stray}
 use Rattle.ledger.specs.Literals.{ascending}

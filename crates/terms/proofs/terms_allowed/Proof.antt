@@ -14,7 +14,8 @@ use mir.ValLaws.{toZ-ofZ}
 use Rattle.ints.specs.Tests.{all}
 use Rattle.rows.specs.Limits.{unknowns}
 use Rattle.rows.specs.Form.{formAt}
-use Rattle.rows.specs.Sum.{Term, terms}
+use Rattle.rows.specs.Sum.{Term}
+use Rattle.rows.specs.Summable.{terms}
 use Rattle.rows.proofs.TermLaws.{term, next-term}
 use Rattle.terms.specs.Picks.{allowed}
 use Rattle.terms.proofs.terms_allowed.Statement.{statement}

@@ -13,7 +13,7 @@ use borrow.Author.Tests.{not-true, not-false}
 use Rattle.ints.specs.Tests.{eqZs}
 use Rattle.rows.specs.Limits.{unknowns}
 use Rattle.rows.specs.Row.{Row, constant, coefficients, scaled}
-use Rattle.rows.specs.Form.{rowAt}
+use Rattle.rows.specs.Summable.{rowAt}
 use Rattle.rows.specs.Conditions.{tightens}
 use Rattle.rows.proofs.RowLaws.{tail, filled}
 use Rattle.conditions.proofs.tighten.tightens.Statement.{statement}

@@ -8,7 +8,8 @@ use borrow.Author.Count.{below-more}
 use borrow.Author.Tests.{not-true, not-false}
 use borrow.Author.Needs.{needs}
 use Rattle.session.specs.declared.state.Mark.{Mark}
-use Rattle.session.specs.Cells.{countsOf, endBefore, edge}
+use Rattle.session.specs.Cells.{countsOf, endBefore}
+use Rattle.session.specs.Parts.{edge}
 use Rattle.walk.specs.Walk.{Exactly}
 use Rattle.order.specs.Levels.{Below, LevelGood, lower}
 use Rattle.walk.proofs.Says.{say-yes, say-no, denied}

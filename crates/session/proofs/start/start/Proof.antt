@@ -1,7 +1,8 @@
 -- `session::start::start` meets its contract. Where the sizes pass, the tables have their named cells, which come back as zeros.
 use denote.Ref.{now}
 use Rattle.rows.specs.Limits.{unknowns}
-use Rattle.session.specs.Cells.{Tables, tables, Long}
+use Rattle.session.specs.Cells.{Tables, tables}
+use Rattle.session.specs.Parts.{Long}
 use Rattle.session.proofs.Starting.{passed→long, start-refused, start-passed}
 use borrow.Author.Needs.{needs}
 use Rattle.session.proofs.start.start.Statement.{statement}

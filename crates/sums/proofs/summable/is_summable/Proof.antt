@@ -11,7 +11,7 @@ use mir.Syntax.{w32}
 use mir.ValLaws.{toZ-ofZ}
 use Rattle.ints.specs.Tests.{all}
 use Rattle.rows.specs.Limits.{unknowns}
-use Rattle.rows.specs.Sum.{terms, summand, summable}
+use Rattle.rows.specs.Summable.{terms, summand, summable}
 use Rattle.rows.proofs.TermLaws.{term, next-term, summable-is, not-summable}
 use Rattle.sums.proofs.summable.is_summable.Statement.{statement}
 use Rattle.sums.proofs.summable.is_summable.Tie as tie

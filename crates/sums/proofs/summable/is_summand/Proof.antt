@@ -11,7 +11,8 @@ use mir.Syntax.{w32}
 use mir.ValLaws.{toZ-ofZ}
 use Rattle.ints.specs.Tests.{between, all}
 use Rattle.rows.specs.Limits.{unknowns, largestMultiplier}
-use Rattle.rows.specs.Form.{inRange, rowAt}
+use Rattle.rows.specs.Form.{inRange}
+use Rattle.rows.specs.Summable.{rowAt}
 use Rattle.sums.proofs.summable.is_summand.Statement.{statement}
 use Rattle.sums.proofs.summable.is_summand.Tie as tie
 

@@ -43,11 +43,12 @@ reached d r = lowest d (constant r) 0 (coefficients r)
 
 -- ---- what may be summed without a wrap: few terms, of forms that the table has, with numbers in range
 
+-- `row` gives each form's row: the row of the term and its multiplier are in range
+abbrev pub bounded : (ℕ → Row) → Term → Bool
+bounded row t = all inRange (row (t .form)) && between (negℤ (pos largestMultiplier)) (pos largestMultiplier) (t .multiplier)
+
 abbrev pub summand : ℕ → List ℤ → Term → Bool
-summand n table t =
-    leb ((n + 3) * t .form + (n + 3)) (length table)
-    && all inRange (rowAt n table (t .form))
-    && between (negℤ (pos largestMultiplier)) (pos largestMultiplier) (t .multiplier)
+summand n table t = leb ((n + 3) * t .form + (n + 3)) (length table) && bounded (rowAt n table) t
 
 abbrev pub summable : ℕ → List ℤ → List ℕ → List ℤ → Bool
 summable n table picks multipliers =

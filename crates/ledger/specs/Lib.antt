@@ -5,6 +5,7 @@ pub mod Record
 pub mod Checks
 pub mod Apply
 pub mod Bytes
+pub mod Numbers
 pub mod Run
 pub mod Truth
 pub mod History

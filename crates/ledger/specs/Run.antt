@@ -3,13 +3,14 @@ use mathlib.Core.Path.{_≡_}
 use mathlib.Core.Logic.{_⊎_}
 use mathlib.Core.Bool.{cond}
 use mathlib.Core.List.{List, [], _∷_, flatten}
-use Prim.Native.Nat.{ℕ, zero, suc, _+_, _<_}
+use Prim.Native.Nat.{ℕ, zero, suc, _+_, _≤_, _<_}
 use lib.Dec.{eqb}
 use lib.ListN.{length, take, drop, getD}
 use Rattle.ledger.specs.Ledger.{Line, Ledger}
-use Rattle.ledger.specs.Record.{accepted, refused, isAccepted, layout}
-use Rattle.ledger.specs.Checks.{countIn}
-use Rattle.ledger.specs.Bytes.{Bearing, unknown, bears, markOf, bytesFor, countFrom, applyBytes}
+use Rattle.ledger.specs.Record.{RecordMark, accepted, refused, isAccepted, layout}
+use Rattle.ledger.specs.Checks.{countIn, Passed}
+use Rattle.ledger.specs.Apply.{pass, fail, finding}
+use Rattle.ledger.specs.Bytes.{Bearing, unknown, bears, markOf, bytesFor, countFrom, shape, applyBytes}
 
 -- ---- the records of a stream
 
@@ -25,6 +26,19 @@ unfoldable pub front : List ℕ → ℕ
 unfolding markOf
 front b = frontBytes b (markOf b)
 
+-- the front record of the bytes b is all of them, and its shape fails by the number k
+pub record Misshapen (b : List ℕ) (k : ℕ) : Type 0 where
+  pub all : length b ≤ front b
+  pub failed : finding (shape b) ≡ fail k
+
+-- so many bytes are required of a front record with this mark, which has the right shape where they are there
+pub record Requires (b : List ℕ) (m : RecordMark) (required : ℕ) : Type 0 where
+  pub known : markOf b ≡ bears m
+  pub two : 2 ≤ required
+  pub front-is : front b ≡ required
+  pub short : length b < required → finding (shape b) ≡ fail 3
+  pub right : required ≤ length b → finding (shape (take required b)) ≡ pass
+
 -- as many as the first number, at most
 unfoldable pub split : ℕ → List ℕ → List (List ℕ)
 unfolding front
@@ -35,6 +49,11 @@ split (suc k) (x ∷ b) = take (front (x ∷ b)) (x ∷ b) ∷ split k (drop (fr
 -- each record has a byte at least
 abbrev pub recordsOf : List ℕ → List (List ℕ)
 recordsOf b = split (length b) b
+
+-- each has a good shape
+unfoldable pub AllShaped : List (List ℕ) → Type 0
+AllShaped [] = Unit {0}
+AllShaped (b ∷ bs) = Passed (shape b) × AllShaped bs
 
 -- ---- the run
 

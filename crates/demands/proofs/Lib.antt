@@ -6,3 +6,4 @@ pub mod Stopping
 pub mod Useless
 pub mod Waving
 pub mod ExamplesOnCells
+pub mod Numbers

@@ -1,3 +1,4 @@
 pub mod History
 pub mod Useless
 pub mod Examples
+pub mod Numbers

@@ -3,9 +3,8 @@
 use mathlib.Core.Path.{_≡_, refl, ap}
 use mathlib.Core.Bool.{Bool, true, false, cond}
 use mathlib.Core.List.{List, [], _∷_, _++_}
-use Prim.Native.Nat.{ℕ, suc, _≤_, _<_}
-use native.Mathlib.Omega.{arith}
-use lib.Dec.{T, leb, leb→le}
+use Prim.Native.Nat.{ℕ}
+use lib.Dec.{T}
 use Rattle.ints.specs.Tests.{all}
 use Rattle.ints.proofs.Bools.{never, T→true, T-and}
 use Rattle.ledger.specs.Ledger.{Ledger}
@@ -54,21 +53,17 @@ pub passed-back : (cs ds : List Check) → Passed (cs ++ ds) → Passed ds
 passed-back [] ds p = p
 passed-back (c ∷ cs) ds p = passed-back cs ds (p .1)
 
--- the tests have no number below k
-abbrev pub noneBelow : ℕ → List Check → Bool
-noneBelow k cs = all (λ c. leb k (c .number)) cs
-
 -- a list of tests refuses with none but its numbers
-pub finding-from : (k : ℕ) (cs : List Check) {j : ℕ} → T (noneBelow k cs) → finding cs ≡ fail j → k ≤ j
+pub finding-number : (p : ℕ → Bool) (cs : List Check) {j : ℕ} → T (all (λ c. p (c .number)) cs) → finding cs ≡ fail j → T (p j)
 unfolding finding
-finding-from k [] t e = never (cc)
-finding-from k (c ∷ cs) {j} t e =
-    let u = T-and (leb k (c .number)) (noneBelow k cs) t in
-    go (c .passes) e (leb→le k (c .number) (u .0)) (finding-from k cs (u .1))
+finding-number p [] t e = never (cc)
+finding-number p (c ∷ cs) {j} t e =
+    let (first, others) = T-and (p (c .number)) (all (λ d. p (d .number)) cs) t in
+    go (c .passes) e first (finding-number p cs others)
   where
-    go : (p : Bool) → cond p (finding cs) (fail (c .number)) ≡ fail j → k ≤ c .number → (finding cs ≡ fail j → k ≤ j) → k ≤ j
+    go : (b : Bool) → cond b (finding cs) (fail (c .number)) ≡ fail j → T (p (c .number)) → (finding cs ≡ fail j → T (p j)) → T (p j)
     go true e h rest = rest e
-    go false e h rest = let s : c .number ≡ j = cc in omega arith
+    go false e h rest = let s : c .number ≡ j = cc in rw (← s) h
 
 -- ---- what is judged by a finding
 
@@ -80,14 +75,6 @@ judged-refused : (f : Finding) (l : Ledger) (o : Outcome) (k : ℕ) → (o .answ
     → judged f l o .answer ≡ refused k → judged f l o .ledger ≡ l
 judged-refused pass l o k same e = same e
 judged-refused (fail j) l o k same e = refl
-
-pub judged-positive : (k : ℕ) (cs : List Check) (l : Ledger) (o : Outcome) {j : ℕ}
-    → T (noneBelow (suc k) cs) → (o .answer ≡ refused j → 0 < j) → judged (finding cs) l o .answer ≡ refused j → 0 < j
-judged-positive k cs l o {j} t f = go (finding cs) refl
-  where
-    go : (d : Finding) → finding cs ≡ d → judged d l o .answer ≡ refused j → 0 < j
-    go pass h e = f e
-    go (fail i) h e = let g : finding cs ≡ fail j = cc in omega (arith, finding-from (suc k) cs t g)
 
 -- what the ledger has, and the outcome's ledger has where the tests pass, the ledger has after the judgement
 pub judged-keeps : (P : Ledger → Type 0) (cs : List Check) (l : Ledger) (o : Outcome) → P l → (Passed cs → P (o .ledger))

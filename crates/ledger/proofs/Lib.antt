@@ -8,9 +8,13 @@ pub mod TruthLaws
 pub mod LayoutLaws
 pub mod Brought
 pub mod RuleLaws
+pub mod Numbers
 pub mod StandingLaws
 pub mod LegalLaws
 pub mod LinesTrue
 pub mod RunLaws
 pub mod Carried
 pub mod ExampleLaws
+pub mod FrontLaws
+pub mod FrontCut
+pub mod Splitting

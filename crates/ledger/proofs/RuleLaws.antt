@@ -1,5 +1,4 @@
--- What is shown rule by rule: where a rule's tests pass, what it makes is legal, and true where the lines that it draws on are; and
--- which numbers its tests have.
+-- What is shown rule by rule: where a rule's tests pass, what it makes is legal, and true where the lines that it draws on are.
 use mathlib.Core.Path.{_≡_, refl, ap, _∙_}
 use mathlib.Core.Bool.{Bool, true, false, not, _&&_, _||_, or-false}
 use mathlib.Core.List.{List, [], _∷_, map}
@@ -18,15 +17,14 @@ use Rattle.rows.specs.Truth.{Integers, formTrue}
 use Rattle.rows.proofs.Sound.{totality, trichotomy, equation, weakening, tightening, farkas-sound, clash-sound}
 use Rattle.ledger.specs.Limits.{longestLine}
 use Rattle.ledger.specs.Literals.{unnegated, negated, ascending, lineOf, without, below}
-use Rattle.ledger.specs.Ledger.{Line, noLine, nthForm, nthLine, Ledger, New, newForm, newLine}
-use Rattle.ledger.specs.Record.{Rule, FM, PM, RS, FK, TO, TR, EQ, TI, WK, CL, Record, make, OP, WD}
-use Rattle.ledger.specs.Checks.{formIn, lineIn, formsOf, firstDivisor, resolvent, derivedLine, makes, tests, checks, Passed}
+use Rattle.ledger.specs.Ledger.{Line, noLine, nthForm, nthLine, New, newForm, newLine}
+use Rattle.ledger.specs.Record.{Rule, FM, PM, RS, FK, TO, TR, EQ, TI, WK, CL, make}
+use Rattle.ledger.specs.Checks.{formIn, lineIn, formsOf, firstDivisor, resolvent, derivedLine, makes, tests, Passed}
 use Rattle.ledger.specs.Parents.{parents}
 use Rattle.ledger.specs.Legal.{LegalLine}
 use Rattle.ledger.specs.Truth.{literalTrue, lineTrue}
 use Rattle.ledger.specs.Premises.{chosenTrue, asPremise}
 use Rattle.ints.proofs.Lists.{all-map, any-map}
-use Rattle.ledger.proofs.Findings.{noneBelow}
 use Rattle.ledger.proofs.Brought.{Brought}
 use Rattle.ledger.proofs.LiteralLaws.{any-joined, any-lineOf, any-without, all-joined, all-lineOf, all-without}
 use Rattle.ledger.proofs.LiteralLaws.{ascending-joined, ascending-lineOf, ascending-without, ascending-negated, length-lineOf}
@@ -177,20 +175,3 @@ module _ (n : ℕ) (fs : List Form) (ls : List Line) (each : LegalLines (length 
   owed (CL ts) few (names, (ascends, (kinds, (_, (divisors, (sum, _)))))) =
       negated-owed n fs ls ts few names ascends
       (λ ρ. clash-sound ρ n (nthForm fs) ts (firstDivisor fs ts) kinds divisors sum)
-
--- ---- the numbers of the tests: 3 and below belong to the sizes, the order and the shape
-
-pub checks-numbered : (n : ℕ) (l : Ledger) (r : Record) → T (noneBelow 4 (checks n l r))
-unfolding checks
-checks-numbered n l (make (FM f)) = tt
-checks-numbered n l (make (PM xs)) = tt
-checks-numbered n l (make (RS p i j)) = tt
-checks-numbered n l (make (FK ts)) = tt
-checks-numbered n l (make (TO a b)) = tt
-checks-numbered n l (make (TR z u v)) = tt
-checks-numbered n l (make (EQ z a)) = tt
-checks-numbered n l (make (TI a b c)) = tt
-checks-numbered n l (make (WK z g)) = tt
-checks-numbered n l (make (CL ts)) = tt
-checks-numbered n l OP = tt
-checks-numbered n l WD = tt

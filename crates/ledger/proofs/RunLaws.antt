@@ -10,17 +10,17 @@ use lib.Dec.{T}
 use lib.ListN.{length, take, drop, getD, length-append, length-drop, take-append-drop}
 use lib.Seq.{take-all}
 use Rattle.ledger.specs.Ledger.{Ledger, fresh}
-use Rattle.ledger.specs.Record.{Record, Made, Answer, accepted, refused, isAccepted, layout}
-use Rattle.ledger.specs.Checks.{countIn, checks}
-use Rattle.ledger.specs.Apply.{finding, Outcome, judged, apply, done, made}
-use Rattle.ledger.specs.Bytes.{Bearing, unknown, bears, markOf, bytesFor, countFrom, shapeOf, shape, decode, applyBytes}
+use Rattle.ledger.specs.Record.{Made, Answer, accepted, refused, isAccepted, layout}
+use Rattle.ledger.specs.Checks.{countIn}
+use Rattle.ledger.specs.Bytes.{Bearing, unknown, bears, markOf, bytesFor, countFrom, applyBytes}
 use Rattle.ledger.specs.Split.{frontBytes, front, split, recordsOf}
 use Rattle.ledger.specs.Run.{Run, runFrom, run, fedAll, AllAccepted, Stops}
+use Rattle.ledger.specs.Literals.{holds}
+use Rattle.ledger.specs.Numbers.{shapeOrder, recordOrder}
 use Rattle.ledger.specs.History.{afterBytes}
 use Rattle.ledger.specs.Kept.{AcceptedBytes}
-use Rattle.ledger.proofs.Findings.{noneBelow, judged-positive, by-checks}
 use Rattle.ledger.proofs.LayoutLaws.{two-letters}
-use Rattle.ledger.proofs.RuleLaws.{checks-numbered}
+use Rattle.ledger.proofs.Numbers.{number-in, byteTests, bytes-follow, bytes-found}
 
 -- ---- the records of a stream
 
@@ -39,7 +39,7 @@ front-positive x b = go (markOf (x ∷ b))
         let some : (n : ℕ) → 1 ≤ bytesFor m n = λ n. omega (arith, two-letters m) in
         either (layout m .counted) _ _ (either (countIn m (countFrom m (x ∷ b))) _ _ (some _) (omega arith)) (some 0)
 
-abbrev frontRecord : List ℕ → List ℕ
+abbrev pub frontRecord : List ℕ → List ℕ
 frontRecord b = take (front b) b
 
 abbrev afterFront : List ℕ → List ℕ
@@ -82,26 +82,12 @@ records-step x b = ap (λ r. frontRecord (x ∷ b) ∷ r) (fuel-enough (length b
 
 -- ---- no refusal has the number 0
 
-shape-numbered : (b : List ℕ) → T (noneBelow 1 (shape b))
-unfolding shape
-shape-numbered b = go (markOf b)
-  where
-    go : (m : Bearing) → T (noneBelow 1 (shapeOf b m))
-    go unknown = tt
-    go (bears m) = tt
-
 pub never-zero : (n : ℕ) (l : Ledger) (b : List ℕ) {k : ℕ} → applyBytes n l b .answer ≡ refused k → 0 < k
-unfolding applyBytes
-never-zero n l b = judged-positive 0 (shape b) l (apply n l r) (shape-numbered b) (λ e. of-checks (rw (by-checks n l r) at e))
+never-zero n l b {k} e = positive k (number-in (shapeOrder ++ recordOrder) (byteTests n l b) (bytes-follow n l b) (bytes-found n l b k .0 e))
   where
-    r : Record
-    r = decode b
-
-    o : Outcome
-    o = record { answer = accepted (made l r); ledger = done l r }
-
-    of-checks : {k : ℕ} → judged (finding (checks n l r)) l o .answer ≡ refused k → 0 < k
-    of-checks = judged-positive 3 (checks n l r) l o (checks-numbered n l r) (λ e. let z : _≡_ {A = ℕ} 0 1 = cc in omega arith)
+    positive : (k : ℕ) → T (holds k (shapeOrder ++ recordOrder)) → 0 < k
+    positive zero t = absurd t
+    positive (suc k) t = omega arith
 
 -- ---- a run
 

@@ -9,6 +9,7 @@ pub mod Settles
 pub mod Bytes
 pub mod Split
 pub mod Standing
+pub mod Numbers
 pub mod Run
 pub mod Truth
 pub mod Premises

@@ -1,13 +1,14 @@
--- A run over a stream of bytes, which feeds its records from the front, and the standing of a ledger.
+-- A run over a stream on the ledger, and what the proofs say of the record at a stream's front.
 use mathlib.Core.Path.{_≡_}
 use mathlib.Core.Logic.{_⊎_}
 use mathlib.Core.List.{List, [], _∷_, flatten}
-use Prim.Native.Nat.{ℕ, _+_, _<_}
+use Prim.Native.Nat.{ℕ, _+_, _≤_, _<_}
 use lib.ListN.{length, take, getD}
 use Rattle.ledger.specs.Ledger.{Ledger}
-use Rattle.ledger.specs.Record.{accepted, refused, isAccepted}
-use Rattle.ledger.specs.Bytes.{applyBytes}
-use Rattle.ledger.specs.Split.{recordsOf}
+use Rattle.ledger.specs.Record.{accepted, refused, isAccepted, RecordMark}
+use Rattle.ledger.specs.Bytes.{applyBytes, bears, markOf, shape}
+use Rattle.ledger.specs.Split.{recordsOf, front}
+use Rattle.ledger.specs.Apply.{fail, finding, pass}
 
 -- ---- the run
 
@@ -49,3 +50,18 @@ pub record Stops (n : ℕ) (l : Ledger) (bs : List (List ℕ)) (r : Run) : Type 
   pub bytes : r .bytes ≡ length (flatten (take (r .records) bs))
   pub end : ((r .stop ≡ 0) × (r .records ≡ length bs))
       ⊎ ((r .records < length bs) × (applyBytes n (r .ledger) (getD bs (r .records) []) .answer ≡ refused (r .stop)))
+
+-- ---- the record at the front of a stream
+
+-- the front record of the bytes b is all of them, and its shape fails by the number k
+pub record Misshapen (b : List ℕ) (k : ℕ) : Type 0 where
+  pub all : length b ≤ front b
+  pub failed : finding (shape b) ≡ fail k
+
+-- so many bytes are required of a front record with this mark, which has the right shape where they are there
+pub record Requires (b : List ℕ) (m : RecordMark) (required : ℕ) : Type 0 where
+  pub known : markOf b ≡ bears m
+  pub two : 2 ≤ required
+  pub front-is : front b ≡ required
+  pub short : length b < required → finding (shape b) ≡ fail 3
+  pub right : required ≤ length b → finding (shape (take required b)) ≡ pass

@@ -4,8 +4,8 @@ use mathlib.Core.List.{List, [], _∷_}
 use Prim.Native.Nat.{ℕ, zero, suc}
 use lib.ListN.{length, take, drop}
 use Rattle.ledger.specs.Record.{layout}
-use Rattle.ledger.specs.Checks.{countIn}
-use Rattle.ledger.specs.Bytes.{Bearing, unknown, bears, markOf, bytesFor, countFrom}
+use Rattle.ledger.specs.Checks.{countIn, Passed}
+use Rattle.ledger.specs.Bytes.{Bearing, unknown, bears, markOf, bytesFor, countFrom, shape}
 
 -- how many bytes the front record has: what its mark and count require; all that is left where that cannot be told
 abbrev pub frontBytes : List ℕ → Bearing → ℕ
@@ -29,3 +29,8 @@ split (suc k) (x ∷ b) = take (front (x ∷ b)) (x ∷ b) ∷ split k (drop (fr
 -- each record has a byte at least
 abbrev pub recordsOf : List ℕ → List (List ℕ)
 recordsOf b = split (length b) b
+
+-- each record has a good shape
+unfoldable pub AllShaped : List (List ℕ) → Type 0
+AllShaped [] = Unit {0}
+AllShaped (b ∷ bs) = Passed (shape b) × AllShaped bs

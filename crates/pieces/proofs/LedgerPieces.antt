@@ -15,9 +15,9 @@ use Rattle.ledger.specs.Record.{Made, Answer, accepted, refused}
 use Rattle.ledger.specs.Bytes.{applyBytes}
 use Rattle.ledger.specs.Split.{front, split, recordsOf}
 use Rattle.ledger.specs.Run.{Run, runFrom, run}
-use Rattle.ledger.proofs.RunLaws.{front-positive, split-covers, records-step, never-zero, run-on, run-stops, run-stops-at-first-bad}
+use Rattle.ledger.proofs.RunLaws.{frontRecord, front-positive, split-covers, records-step, never-zero, run-on, run-stops, run-stops-at-first-bad}
 use Rattle.pieces.specs.Longest.{longest}
-use Rattle.pieces.proofs.FrontCut.{frontRecord, whole, wrong, short, cut, failed, still-refused, three-is-short}
+use Rattle.ledger.proofs.FrontCut.{whole, wrong, short, cut, misshapen, failed, still-refused, three-is-short}
 
 -- ---- a run over a front part
 
@@ -76,7 +76,7 @@ module _ (n k c : ℕ) (l : Ledger) where
         by (accepted m) e = elim (cut (x ∷ a)) [
           | whole p h same ↦ rw (run-on n k c l first (recordsOf others) e) (taken-on e h same)
           | wrong i other p ↦ let q = failed n l first (rw append-nil at (p [])) in never (cc)
-          | short p h ↦ let q = failed n l first p in never (cc)
+          | short w h ↦ let q = failed n l first (misshapen w) in never (cc)
         ]
 
 parted : (j n k c : ℕ) (l : Ledger) (a : List ℕ) → length a ≤ j → Parted n k c l a (runFrom n k c l (recordsOf a))

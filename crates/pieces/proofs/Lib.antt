@@ -1,7 +1,6 @@
 pub mod Moving
 pub mod Stepping
 pub mod RunLaid
-pub mod FrontCut
 pub mod LedgerPieces
 pub mod CellPieces
 pub mod InPieces

@@ -1,7 +1,7 @@
--- The first of a list of marks whose letters the bytes begin with, one mark at a time; and that fewer than two bytes bear no mark.
-use mathlib.Core.Path.{_≡_, refl}
-use mathlib.Core.Bool.{true, false, and-false}
-use mathlib.Core.List.{List, [], _∷_, map}
+-- The first of a list of marks whose letters the bytes begin with, one mark at a time.
+use mathlib.Core.Path.{_≡_}
+use mathlib.Core.Bool.{true, false}
+use mathlib.Core.List.{List, map}
 use Prim.Native.Nat.{ℕ, _+_, _≤_, _<_}
 use native.Mathlib.Numerals.{add-one}
 use native.Mathlib.Omega.{arith}
@@ -25,10 +25,3 @@ module _ {b : List ℕ} {ms : List RecordMark} {i : ℕ} (s : Seeking b ms i) wh
 
   pub none-borne : length ms ≤ i → unknown ≡ markOf b
   none-borne l = simp (drop-of-length-le ms l) at (s .rest)
-
--- no letter is 0
-pub no-mark : (b : List ℕ) → length b < 2 → markOf b ≡ unknown
-unfolding markOf
-no-mark [] h = refl
-no-mark (x ∷ []) h = simp and-false
-no-mark (x ∷ y ∷ b) h = absurd (omega arith)

@@ -1,12 +1,13 @@
 -- What the code's marks and layouts are, in the ledger's terms.
 use mathlib.Core.Path.{_≡_}
 use mathlib.Core.List.{List}
-use Prim.Native.Nat.{ℕ, _≤_, _<_}
+use Prim.Native.Nat.{ℕ, _≤_}
 use lib.ListN.{length, take}
 use Rattle.ledger.specs.Record as ledger
 use Rattle.ledger.specs.Apply.{pass, fail, finding}
 use Rattle.ledger.specs.Bytes as bytes
 use Rattle.ledger.specs.Split.{front}
+use Rattle.ledger.specs.Run.{Misshapen}
 use Rattle.session.specs.Answers.{numberOf}
 use Rattle.records.specs.declared.marks.RecordMark.{RecordMark}
 use Rattle.records.specs.declared.marks.RecordMark.the-variants.{Rule, Op, Wd}
@@ -70,20 +71,7 @@ pub record Whole (b : List ℕ) (m : ledger.RecordMark) (size : ℕ) : Type 0 wh
   pub taken : take size b ≡ take (front b) b
   pub record-of : OfMark (take size b) m
 
--- the front record of the bytes b is all of them, and its shape fails by the number k
-pub record Misshapen (b : List ℕ) (k : ℕ) : Type 0 where
-  pub all : length b ≤ front b
-  pub failed : finding (bytes.shape b) ≡ fail k
-
 -- r is the front record of the bytes b
 abbrev pub Fronted : List ℕ → Front → Type 0
 Fronted b (Fronts.Wrong why) = Misshapen b (numberOf why)
 Fronted b (Fronts.Record m size) = Whole b (recordMarkOf m) size
-
--- so many bytes are required of a front record with this mark, which has the right shape where they are there
-pub record Requires (b : List ℕ) (m : ledger.RecordMark) (required : ℕ) : Type 0 where
-  pub known : bytes.markOf b ≡ bytes.bears m
-  pub two : 2 ≤ required
-  pub front-is : front b ≡ required
-  pub short : length b < required → finding (bytes.shape b) ≡ fail 3
-  pub right : required ≤ length b → finding (bytes.shape (take required b)) ≡ pass

@@ -6,22 +6,23 @@ use native.Mathlib.Nat.{add-zero}
 use native.Mathlib.Numerals.{add-one}
 use native.Mathlib.Omega.{arith}
 use lib.IntN.{ℤ, pos, natAbs, _+ℤ_, _*ℤ_}
-use lib.ListN.{length, getD, take, drop, set, replicate, drop-of-length-le}
-use lib.Seq.{take-all, take-suc-set, drop-cons, getD-drop, drop-drop}
+use lib.ListN.{length, getD, take, drop, set, replicate, length-take, drop-of-length-le}
+use lib.Seq.{take-all, take-length, take-suc-set, drop-cons, getD-drop, drop-drop}
 use Rattle.ints.proofs.Bools.{T-and}
+use Rattle.ints.proofs.Lists.{all-take, all-implies}
 use Rattle.ints.proofs.Size.{natAbs-add, natAbs-mul, sizes, within}
-use lib.Dec.{T}
+use lib.Dec.{T, leb}
 use mathlib.Core.Bool.{true, false}
 use Rattle.ints.specs.Tests.{all, divides}
 use Rattle.rows.specs.declared.Reached.the-variants.{Coefficient, Constant}
 use Rattle.rows.specs.Row.{Row, zeroRow, plus, scaled}
-use Rattle.rows.specs.Sum.{Term, summedOnto, summed}
+use Rattle.rows.specs.Sum.{Term, summedOnto, summed, bounded}
 use Rattle.rows.specs.Summable.{terms, lowest, summand, Summable, Addable, Small}
-use Rattle.rows.specs.Limits.{largestNumber, largestMultiplier}
+use Rattle.rows.specs.Limits.{largestNumber, largestMultiplier, mostTerms}
 use Rattle.rows.specs.Summable.{rowAt}
 use Rattle.rows.specs.Form.{inRange}
 use Rattle.rows.proofs.FormCells.{length-row}
-use Rattle.rows.proofs.TermLaws.{Summand, summand→, length-terms, next-term}
+use Rattle.rows.proofs.TermLaws.{Summand, length-terms, next-term}
 
 -- ---- plus and scaled, cell by cell
 
@@ -116,39 +117,52 @@ size-plus m (x ∷ s) [] j = omega arith
 size-plus m (x ∷ s) (k ∷ r) zero = omega (arith, natAbs-add x (m *ℤ k), natAbs-mul m k)
 size-plus m (x ∷ s) (k ∷ r) (suc j) = size-plus m s r j
 
-module _ {n : ℕ} {table : List ℤ} {f : ℕ} {m : ℤ} (t : Summand n table f m) (sum : List ℤ) (b : ℕ) (w : Within b sum) where
-  added : (j : ℕ) → natAbs m * natAbs (getD (rowAt n table f) j (pos 0)) ≤ largestTerm
-  added j = sizes (t .multiplier) (within-range (rowAt n table f) (t .numbers) j)
+module _ (m : ℤ) (r : Row) (few : natAbs m ≤ largestMultiplier) (numbers : T (all inRange r)) where
+  added : (j : ℕ) → natAbs m * natAbs (getD r j (pos 0)) ≤ largestTerm
+  added j = sizes few (within-range r numbers j)
 
+  within-plus : (sum : List ℤ) (b : ℕ) → Within b sum → Within (b + largestTerm) (plus sum (scaled m r))
+  within-plus sum b w j = omega (arith, w j, added j, size-plus m sum r j)
+
+module _ {n : ℕ} {table : List ℤ} {f : ℕ} {m : ℤ} (t : Summand n table f m) (sum : List ℤ) (b : ℕ) (w : Within b sum) where
   pub grown : Within (b + largestTerm) (plus sum (scaled m (rowAt n table f)))
-  grown j = omega (arith, w j, added j, size-plus m sum (rowAt n table f) j)
+  grown = within-plus m (rowAt n table f) (t .multiplier) (t .numbers) sum b w
 
   pub room : b + largestTerm < 2 ^ 63 → length sum ≡ n + 1 → Addable m sum (rowAt n table f)
-  room h l = record { same = l ∙ sym (length-row n table f (t .inside)); room = λ j. omega (arith, w j, added j) }
+  room h l =
+      record {
+        same = l ∙ sym (length-row n table f (t .inside));
+        room = λ j. omega (arith, w j, added m (rowAt n table f) (t .multiplier) (t .numbers) j);
+      }
 
   pub length-grown : length sum ≡ n + 1 → length (plus sum (scaled m (rowAt n table f))) ≡ n + 1
   length-grown l =
       length-plus sum (scaled m (rowAt n table f)) (l ∙ sym (length-scaled m (rowAt n table f) ∙ length-row n table f (t .inside))) ∙ l
 
-within-summed : (n : ℕ) (table : List ℤ) (ts : List Term) (sum : List ℤ) (b : ℕ) → T (all (summand n table) ts) → Within b sum
-    → Within (b + length ts * largestTerm) (summedOnto (rowAt n table) sum ts)
+within-summed : (row : ℕ → Row) (ts : List Term) (sum : List ℤ) (b : ℕ) → T (all (bounded row) ts) → Within b sum
+    → Within (b + length ts * largestTerm) (summedOnto row sum ts)
 unfolding summedOnto
-within-summed n table [] sum b h w j = omega (arith, w j)
-within-summed n table (t ∷ ts) sum b h w j =
-    let (x, xs) = T-and (summand n table t) (all (summand n table) ts) h in
-    let s = summand→ n table (t .form) (t .multiplier) x in
-    omega
-    (arith, within-summed n table ts (plus sum (scaled (t .multiplier) (rowAt n table (t .form)))) (b + largestTerm) xs (grown s sum b w) j)
+within-summed row [] sum b h w j = omega (arith, w j)
+within-summed row (t ∷ ts) sum b h w j =
+    let (x, xs) = T-and (bounded row t) (all (bounded row) ts) h in
+    let (numbers, few) = T-and (all inRange (row (t .form))) _ x in
+    let more = within-plus (t .multiplier) (row (t .form)) (within largestMultiplier (t .multiplier) few) numbers sum b w in
+    omega (arith, within-summed row ts (plus sum (scaled (t .multiplier) (row (t .form)))) (b + largestTerm) xs more j)
 
-pub small-sums : (n : ℕ) (table : List ℤ) (ps : List ℕ) (ms : List ℤ) → Summable n table ps ms
-    → Small (summed n (rowAt n table) (terms ps ms))
-small-sums n table ps ms s =
-    record {
-      small = λ j.
-          omega (
-            arith,
-            within-summed n table (terms ps ms) (zeroRow n) 0 (s .summands) (within-zeros (n + 1)) j,
-            length-terms ps ms (s .paired),
-            s .few,
-          );
-    }
+-- the running sums stay within 32 · 10^15: the sum of the first k terms, at every cell
+pub running-sums : (n : ℕ) (row : ℕ → Row) (ts : List Term) → length ts ≤ mostTerms → T (all (bounded row) ts)
+    → (k j : ℕ) → natAbs (getD (summed n row (take k ts)) j (pos 0)) ≤ 32_000_000_000_000_000
+running-sums n row ts few h k j =
+    let first : length (take k ts) ≤ length ts = rw length-take (omega arith) in
+    omega (arith, within-summed row (take k ts) (zeroRow n) 0 (all-take (bounded row) k ts h) (within-zeros (n + 1)) j)
+
+module _ (n : ℕ) (table : List ℤ) where
+  summand-bounded : (t : Term) → T (summand n table t) → T (bounded (rowAt n table) t)
+  summand-bounded t h = T-and (leb ((n + 3) * t .form + (n + 3)) (length table)) (bounded (rowAt n table) t) h .1
+
+  pub small-sums : (ps : List ℕ) (ms : List ℤ) → Summable n table ps ms → Small (summed n (rowAt n table) (terms ps ms))
+  small-sums ps ms s =
+      let ts = terms ps ms in
+      let inside = all-implies (summand n table) (bounded (rowAt n table)) summand-bounded ts (s .summands) in
+      let few : length ts ≤ mostTerms = omega (arith, length-terms ps ms (s .paired), s .few) in
+      record { small = λ j. omega (arith, rw (take-length ts) at (running-sums n (rowAt n table) ts few inside (length ts) j)) }

@@ -59,8 +59,8 @@ pub record Summand (n : ℕ) (t : List ℤ) (f : ℕ) (m : ℤ) : Type 0 where
 module _ (n : ℕ) (t : List ℤ) where
   pub summand→ : (f : ℕ) (m : ℤ) → T (summand n t (term f m)) → Summand n t f m
   summand→ f m s =
-      let (h, b) = T-and (leb ((n + 3) * f + (n + 3)) (length t) && all inRange (rowAt n t f)) _ s in
-      let (i, r) = T-and (leb ((n + 3) * f + (n + 3)) (length t)) _ h in
+      let (i, b) = T-and (leb ((n + 3) * f + (n + 3)) (length t)) _ s in
+      let (r, b) = T-and (all inRange (rowAt n t f)) _ b in
       record { inside = record { inside = leb→le ((n + 3) * f + (n + 3)) (length t) i }; numbers = r; multiplier = within largestMultiplier m b }
 
   module _ (ps : List ℕ) (ms : List ℤ) where

@@ -3,16 +3,16 @@ use mathlib.Core.Bool.{Bool, _&&_, cond}
 use mathlib.Core.List.{List, _∷_, []}
 use Prim.Native.Nat.{ℕ, _+_, _*_, _≤_, suc, _^_, _<_}
 use lib.Dec.{eqb, T, leb}
-use lib.IntN.{ℤ, pos, negℤ, natAbs}
+use lib.IntN.{ℤ, pos, natAbs}
 use lib.ListN.{length, getD}
 use mathlib.Core.Path.{_≡_}
-use Rattle.ints.specs.Tests.{between, all, divides}
-use Rattle.rows.specs.Limits.{largestMultiplier, mostTerms}
+use Rattle.ints.specs.Tests.{all, divides}
+use Rattle.rows.specs.Limits.{mostTerms}
 use Rattle.rows.specs.Row.{Row, constant, coefficients}
 use Rattle.rows.specs.declared.Reached.{Reached}
 use Rattle.rows.specs.declared.Reached.the-variants.{Coefficient, Constant}
-use Rattle.rows.specs.Form.{inRange, formAt}
-use Rattle.rows.specs.Sum.{Term}
+use Rattle.rows.specs.Form.{formAt}
+use Rattle.rows.specs.Sum.{Term, bounded}
 
 abbrev pub rowAt : ℕ → List ℤ → ℕ → Row
 rowAt n table f = formAt n table f .row
@@ -36,10 +36,7 @@ abbrev pub reached : ℤ → Row → Reached
 reached d r = lowest d (constant r) 0 (coefficients r)
 
 abbrev pub summand : ℕ → List ℤ → Term → Bool
-summand n table t =
-    leb ((n + 3) * t .form + (n + 3)) (length table)
-    && all inRange (rowAt n table (t .form))
-    && between (negℤ (pos largestMultiplier)) (pos largestMultiplier) (t .multiplier)
+summand n table t = leb ((n + 3) * t .form + (n + 3)) (length table) && bounded (rowAt n table) t
 
 abbrev pub summable : ℕ → List ℤ → List ℕ → List ℤ → Bool
 summable n table picks multipliers =

@@ -2,3 +2,4 @@ pub mod Filling
 pub mod Starting
 pub mod Clauses
 pub mod LineEnds
+pub mod Numbers

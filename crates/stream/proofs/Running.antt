@@ -14,6 +14,7 @@ use Rattle.ledger.specs.Bytes.{applyBytes}
 use Rattle.ledger.specs.Record.{RecordMark, Made, Answer, accepted, refused}
 use Rattle.ledger.specs.Apply.{pass, fail}
 use Rattle.ledger.specs.Split.{front, split, recordsOf}
+use Rattle.ledger.specs.Run.{Misshapen}
 use Rattle.ledger.proofs.RunLaws.{front-positive, records-step}
 use Rattle.session.specs.declared.state.Mark.{Mark}
 use Rattle.session.specs.declared.state.Session.{Session}
@@ -22,7 +23,7 @@ use Rattle.session.specs.declared.answers.Refusal.{Refusal}
 use Rattle.session.specs.Answers.{numberOf}
 use Rattle.session.specs.Calls.{entry}
 use Rattle.laid.specs.Held.{Held}
-use Rattle.records.specs.Marks.{Whole, Misshapen}
+use Rattle.records.specs.Marks.{Whole}
 use Rattle.settle.specs.declared.Change.{Change}
 use Rattle.settle.specs.declared.Change.the-variants.{Refused}
 use Rattle.settle.specs.declared.Top.{Top}

@@ -4,7 +4,7 @@ use borrow.Author.Tests.{not-true, not-false}
 use denote.Ref.{now}
 use Rattle.ledger.specs.Record.{Layout}
 use Rattle.records.specs.Marks.{recordMarkOf}
-use Rattle.records.proofs.FrontLaws.{requires-fixed, count-missing, count-wrong, requires-counted}
+use Rattle.ledger.proofs.FrontLaws.{requires-fixed, count-missing, count-wrong, requires-counted}
 use Rattle.records.proofs.shape.marked_front.Statement.{statement}
 use Rattle.records.proofs.shape.marked_front.Tie as tie
 

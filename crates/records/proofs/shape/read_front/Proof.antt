@@ -1,7 +1,7 @@
 use mathlib.Core.Path.{sym}
 use borrow.Author.Needs.{needs}
 use denote.Ref.{now}
-use Rattle.records.proofs.FrontLaws.{too-few, none-known}
+use Rattle.ledger.proofs.FrontLaws.{too-few, none-known}
 use Rattle.records.proofs.shape.read_front.Statement.{statement}
 use Rattle.records.proofs.shape.read_front.Tie as tie
 

@@ -1,4 +1,5 @@
-use Rattle.records.proofs.FrontLaws.{not-there, there-whole}
+use Rattle.ledger.proofs.FrontLaws.{not-there}
+use Rattle.records.proofs.FrontLaws.{there-whole}
 use Rattle.records.proofs.shape.whole_front.Statement.{statement}
 use Rattle.records.proofs.shape.whole_front.Tie as tie
 

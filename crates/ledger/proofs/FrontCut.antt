@@ -6,25 +6,25 @@ use mathlib.Core.List.{List, [], _∷_, _++_, append-nil}
 use Prim.Native.Nat.{ℕ, _≤_, _<_}
 use native.Mathlib.Decide.{decLt}
 use native.Mathlib.Omega.{arith}
-use lib.ListN.{length, take, length-append, List·getD-append}
+use lib.ListN.{length, length-append, List·getD-append}
 use lib.Seq.{take-all, take-append-le}
 use Rattle.ints.proofs.Bools.{true→T}
 use Rattle.ledger.specs.Ledger.{Ledger}
-use Rattle.ledger.specs.Record.{Record, RecordMark, accepted, refused, layout}
+use Rattle.ledger.specs.Record.{Record, RecordMark, refused, layout}
 use Rattle.ledger.specs.Checks.{countIn, checks}
-use Rattle.ledger.specs.Apply.{Finding, pass, fail, finding, Outcome, judged, done, made, apply}
+use Rattle.ledger.specs.Apply.{pass, fail, finding, apply}
 use Rattle.ledger.specs.Bytes.{Bearing, unknown, bears, markOf, bytesFor, countFrom, shape, decode, applyBytes}
+use Rattle.ledger.specs.Numbers.{recordOrder}
 use Rattle.ledger.specs.Split.{front}
-use Rattle.ledger.proofs.Findings.{by-checks, finding-from}
-use Rattle.ledger.proofs.RuleLaws.{checks-numbered}
-use Rattle.ledger.proofs.LayoutLaws.{in-longest, count-most, list-behind}
-use Rattle.records.specs.Marks.{Misshapen, Requires}
-use Rattle.records.proofs.FrontLaws.{too-few, none-known, requires-fixed, count-missing, count-wrong, requires-counted, not-there}
-use Rattle.pieces.specs.Longest.{longest}
+use Rattle.ledger.specs.Run.{Misshapen, Requires}
+use Rattle.ledger.proofs.RunLaws.{frontRecord}
+use Rattle.ledger.proofs.Numbers.{number-in, checks-follow, apply-found}
+use Rattle.ledger.proofs.LayoutLaws.{longestRecord, in-longest, count-most, list-behind}
+use Rattle.ledger.proofs.FrontLaws.{too-few, none-known, requires-fixed, count-missing, count-wrong, requires-counted, not-there}
 
 -- ---- marks and their layouts
 
-mark-behind : (b c : List ℕ) → 2 ≤ length b → markOf (b ++ c) ≡ markOf b
+pub mark-behind : (b c : List ℕ) → 2 ≤ length b → markOf (b ++ c) ≡ markOf b
 unfolding markOf
 mark-behind [] c h = absurd (omega arith)
 mark-behind (x ∷ []) c h = absurd (omega arith)
@@ -32,16 +32,13 @@ mark-behind (x ∷ y ∷ b) c h = refl
 
 -- ---- the record at the front, with bytes behind it
 
-abbrev pub frontRecord : List ℕ → List ℕ
-frontRecord b = take (front b) b
-
 -- b holds all of its front record; or that record is misshapen whatever follows b; or it takes more bytes to tell
 pub data Cut (b : List ℕ) : Type 0 where
   whole : finding (shape (frontRecord b)) ≡ pass → front b ≤ length b → ((c : List ℕ) → front (b ++ c) ≡ front b) → Cut b
   wrong : (k : ℕ) → (k ≡ 3 → ⊥) → ((c : List ℕ) → finding (shape (frontRecord (b ++ c))) ≡ fail k) → Cut b
-  short : finding (shape (frontRecord b)) ≡ fail 3 → length b < longest → Cut b
+  short : Misshapen b 3 → length b < longestRecord → Cut b
 
-misshapen : {b : List ℕ} {k : ℕ} → Misshapen b k → finding (shape (frontRecord b)) ≡ fail k
+pub misshapen : {b : List ℕ} {k : ℕ} → Misshapen b k → finding (shape (frontRecord b)) ≡ fail k
 misshapen {b} w = rw (take-all (front b) b (w .all)) (w .failed)
 
 module _ (b : List ℕ) (h : 2 ≤ length b) where
@@ -56,9 +53,9 @@ module _ (b : List ℕ) (h : 2 ≤ length b) where
     behind c = mark-behind b c h ∙ e
 
     -- so many bytes are required, whatever follows
-    cut-required : (n : ℕ) → Requires b m n → ((c : List ℕ) → front (b ++ c) ≡ n) → n ≤ longest → Cut b
+    cut-required : (n : ℕ) → Requires b m n → ((c : List ℕ) → front (b ++ c) ≡ n) → n ≤ longestRecord → Cut b
     cut-required n r same few = elim (decLt (length b) n) [
-      | yes q ↦ short (misshapen (not-there r q)) (omega arith)
+      | yes q ↦ short (not-there r q) (omega arith)
       | no q ↦
           let g : n ≤ length b = omega arith in
           whole (rw (r .front-is) (r .right g)) (rw (r .front-is) g) (λ c. same c ∙ sym (r .front-is))
@@ -71,7 +68,7 @@ module _ (b : List ℕ) (h : 2 ≤ length b) where
 
     module _ (u : layout m .counted ≡ true) where
       cut-before-count : length b ≤ layout m .place → Cut b
-      cut-before-count l = short (misshapen (count-missing b m e h u l)) (omega (arith, list-behind m u, in-longest m 0 (omega arith)))
+      cut-before-count l = short (count-missing b m e h u l) (omega (arith, list-behind m u, in-longest m 0 (omega arith)))
 
       module _ (there : layout m .place < length b) where
         same-count : (c : List ℕ) → countFrom m (b ++ c) ≡ countFrom m b
@@ -98,7 +95,7 @@ module _ (b : List ℕ) (h : 2 ≤ length b) where
 
 pub cut : (b : List ℕ) → Cut b
 cut b = elim (decLt (length b) 2) [
-  | yes q ↦ short (misshapen (too-few b q)) (omega arith)
+  | yes q ↦ short (too-few b q) (omega arith)
   | no q ↦ go (markOf b) refl (omega arith)
 ]
   where
@@ -118,26 +115,16 @@ module _ (n : ℕ) (l : Ledger) where
   still-refused b c {k} other e = elim (cut b) [
     | whole p h same ↦ rw (same c, take-append-le (front b) b c h) e
     | wrong j f p ↦ let q = failed (frontRecord b) (rw append-nil at (p [])) in failed (frontRecord (b ++ c)) (p c) ∙ cc
-    | short p h ↦ let q = failed (frontRecord b) p in absurd (other (cc))
+    | short w h ↦ let q = failed (frontRecord b) (misshapen w) in absurd (other (cc))
   ]
 
 -- ---- only the shape refuses with 3
 
 apply-beyond : (n : ℕ) (l : Ledger) (r : Record) → apply n l r .answer ≡ refused 3 → ⊥
-apply-beyond n l r e = go (finding (checks n l r)) refl (rw (by-checks n l r) at e)
-  where
-    o : Outcome
-    o = record { answer = accepted (made l r); ledger = done l r }
-
-    go : (f : Finding) → finding (checks n l r) ≡ f → judged f l o .answer ≡ refused 3 → ⊥
-    go pass g e = let z : _≡_ {A = ℕ} 0 1 = cc in omega arith
-    go (fail k) g e =
-        let f : finding (checks n l r) ≡ fail 3 = cc in
-        let h = finding-from 4 (checks n l r) (checks-numbered n l r) f in
-        omega arith
+apply-beyond n l r e = number-in recordOrder (checks n l r) (checks-follow n l r) (apply-found n l r 3 .0 e)
 
 module _ (n : ℕ) (l : Ledger) where
-  pub three-is-short : (b : List ℕ) → applyBytes n l (frontRecord b) .answer ≡ refused 3 → length b < longest
+  pub three-is-short : (b : List ℕ) → applyBytes n l (frontRecord b) .answer ≡ refused 3 → length b < longestRecord
   unfolding applyBytes
   three-is-short b e = elim (cut b) [
     | whole p h same ↦ absurd (apply-beyond n l (decode (frontRecord b)) (rw p at e))

@@ -2,3 +2,4 @@ pub mod OnLedger
 pub mod WithdrawalExact
 pub mod Determined
 pub mod Useless
+pub mod OnCells

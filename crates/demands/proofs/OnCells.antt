@@ -5,14 +5,13 @@ use mathlib.Core.List.{List, [], _∷_, _++_, map, reverse, reverseAux, append-a
 use Prim.Native.Nat.{ℕ, suc, _+_, _≤_, _<_}
 use native.Mathlib.Omega.{arith}
 use lib.Dec.{T, eqb, eqb→eq}
-use lib.ListN.{length, take, getD}
+use lib.ListN.{length}
 use Rattle.ints.specs.Tests.{upTo}
 use Rattle.ints.proofs.Bools.{never, implies}
 use Rattle.ints.proofs.Lists.{length-upTo}
 use Rattle.rows.specs.Truth.{Integers}
-use Rattle.ledger.specs.Ledger.{Ledger, Line, premise, noLine, nthLine}
-use Rattle.ledger.specs.Legal.{Legal}
-use Rattle.ledger.specs.Record.{Record, Answer, isAccepted}
+use Rattle.ledger.specs.Ledger.{Line, premise, noLine, nthLine}
+use Rattle.ledger.specs.Record.{isAccepted}
 use Rattle.ledger.specs.Apply.{Finding, pass, fail}
 use Rattle.ledger.specs.Bytes.{decode, applyBytes}
 use Rattle.ledger.specs.Run.{refuted, notRefuted, fedAll}
@@ -20,14 +19,14 @@ use Rattle.ledger.specs.Run as ledger
 use Rattle.ledger.specs.Truth.{lineTrue, asPremise}
 use Rattle.ledger.specs.History.{afterBy, afterBytes, bytesInForce}
 use Rattle.ledger.specs.History as history
-use Rattle.ledger.proofs.LegalLaws.{legal-applyBytes, legal-after-bytes}
+use Rattle.ledger.proofs.LegalLaws.{legal-after-bytes}
 use Rattle.ledger.proofs.LinesTrue.{Good, good-after-bytes, good-line-true}
 use Rattle.ledger.proofs.Restored.{bytes-withdrawal-restores}
 use Rattle.ledger.proofs.RunLaws.{fed-after}
 use Rattle.ledger.proofs.StandingLaws.{standing-lowest, standing-none}
 use Rattle.session.specs.declared.state.Session.{Session}
 use Rattle.session.specs.Cells.{Tables, named, excess, originAt, literalsAt, lineAt, ledgerOf}
-use Rattle.session.specs.Calls.{entry, started, start, Stands, stands, noStanding, standsBy, standing}
+use Rattle.session.specs.Calls.{entry, started, start, stands, standsBy, standing}
 use Rattle.laid.specs.Laid.{sessionOf}
 use Rattle.laid.proofs.ByIndex.{getD-upTo, take-upTo, all-upTo}
 use Rattle.settle.specs.Settling.{Result}

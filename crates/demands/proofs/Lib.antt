@@ -3,3 +3,4 @@ pub mod WithdrawalExact
 pub mod Determined
 pub mod Useless
 pub mod OnCells
+pub mod EveryCall

@@ -1,3 +1,4 @@
 pub mod History
 pub mod Useless
 pub mod Level
+pub mod Keeping

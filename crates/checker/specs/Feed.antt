@@ -1,6 +1,8 @@
 -- What the call feed does: the answer, the session and every lent cell afterwards, for every input.
+use mathlib.Core.Path.{_≡_}
 use mathlib.Core.List.{List}
 use Prim.Native.Nat.{ℕ}
+use Rattle.rows.specs.Limits.{unknowns}
 use Rattle.ledger.specs.Apply.{Finding, pass, fail}
 use Rattle.ledger.specs.Bytes.{applyBytes}
 use Rattle.session.specs.declared.state.Session.{Session}
@@ -32,3 +34,7 @@ feed n s t b = fedBy (entry n s t) n s t b
 -- what the code gives, in these terms
 abbrev pub resultOf : Fed → Tables → Result
 resultOf r t = record { answer = answerOf (r .answer); session = r .session; tables = t }
+
+-- feed, given s and b and lent t, gives r and leaves t'
+abbrev pub Feeds : Session → Tables → List ℕ → Fed → Tables → Type 0
+Feeds s t b r t' = resultOf r t' ≡ feed unknowns s t b

@@ -3,7 +3,7 @@ ghost use mathlib.Core.Path.{_≡_};
 ghost use Rattle.rows.specs.Limits.{unknowns};
 ghost use Rattle.session.specs.Cells.{asGiven, asLent, asLeft};
 ghost use Rattle.laid.specs.Held.{Held};
-ghost use Rattle.checker.specs.Feed.{resultOf, stepped, feed};
+ghost use Rattle.checker.specs.Feed.{resultOf, stepped, Feeds};
 use crate::keep::Fed;
 use records::shape::Shape;
 use session::answers::Verdict;
@@ -48,7 +48,7 @@ fn step(s: Session, forms: &mut [i32], pool: &mut [u16], lines: &mut [u16], byte
 
 // The session is given by value and comes back; the tables are lent. Whatever they hold, nothing has to be tested first.
 pub fn feed(s: Session, forms: &mut [i32], pool: &mut [u16], lines: &mut [u16], bytes: &[u8]) -> Fed
-    ensures { λ r. ⌜ resultOf r (asLeft forms pool lines) ≡ feed unknowns s (asLent forms pool lines) (now (bytes .entry)) ⌝ }
+    ensures { λ r. ⌜ Feeds s (asLent forms pool lines) (now (bytes .entry)) r (asLeft forms pool lines) ⌝ }
 {
     let verdict = order::entered(s, forms, pool, lines);
     if let Verdict::Fail(why) = verdict {

@@ -7,3 +7,5 @@ pub mod Useless
 pub mod Waving
 pub mod ExamplesOnCells
 pub mod Numbers
+pub mod OnCells
+pub mod EveryCall

@@ -1,1 +1,2 @@
-// The third demand, said of the calls on cells: what the calls since a start leave is what their records still in force leave. No code.
+// The demands, said of the calls on cells: that a contract allows one outcome only, what every call keeps, and what the calls since a start
+// leave. No code.

@@ -198,7 +198,7 @@ zero-at-end n l bs = (to-end, from-end)
 
 -- ---- histories
 
-fed-after : (n : ℕ) (h bs : List (List ℕ)) → fedAll n (afterBytes n h) bs ≡ afterBytes n (reverseAux bs h)
+pub fed-after : (n : ℕ) (h bs : List (List ℕ)) → fedAll n (afterBytes n h) bs ≡ afterBytes n (reverseAux bs h)
 unfolding fedAll afterBytes
 fed-after n h [] = refl
 fed-after n h (b ∷ bs) = fed-after n (b ∷ h) bs

@@ -1,9 +1,6 @@
 // Feed with the session lent to it and altered there, over the call that takes the session by value; and a call from a value, which lends it.
-ghost use mathlib.Core.Path.{_≡_};
-ghost use Rattle.rows.specs.Limits.{unknowns};
-ghost use Rattle.session.specs.Answers.{answerOf};
 ghost use Rattle.session.specs.Cells.{asLent, asLeft};
-ghost use Rattle.checker.specs.Feed.{resultOf, feed};
+ghost use Rattle.checker.specs.Feed.{Feeds};
 use checker::keep::Fed;
 use session::answers::Answer;
 use session::state::Session;
@@ -16,8 +13,7 @@ pub fn feed_lent(
     lines: &mut [u16],
     bytes: &[u8],
 ) -> Answer
-    ensures { λ r. ⌜ record { answer = answerOf r; session = now (session .exit); tables = asLeft forms pool lines }
-        ≡ feed unknowns (now (session .entry)) (asLent forms pool lines) (now (bytes .entry)) ⌝ }
+    ensures { λ r. ⌜ Feeds (now (session .entry)) (asLent forms pool lines) (now (bytes .entry)) (record { session = now (session .exit); answer = r }) (asLeft forms pool lines) ⌝ }
 {
     let before = *session;
     let fed = checker::feed::feed(before, forms, pool, lines, bytes);
@@ -34,7 +30,7 @@ pub fn feed_by_lending(
     lines: &mut [u16],
     bytes: &[u8],
 ) -> Fed
-    ensures { λ r. ⌜ resultOf r (asLeft forms pool lines) ≡ feed unknowns s (asLent forms pool lines) (now (bytes .entry)) ⌝ }
+    ensures { λ r. ⌜ Feeds s (asLent forms pool lines) (now (bytes .entry)) r (asLeft forms pool lines) ⌝ }
 {
     let mut session = s;
     let answer = feed_lent(&mut session, forms, pool, lines, bytes);

@@ -2,10 +2,9 @@
 ghost use mathlib.Core.Path.{_≡_};
 ghost use Prim.Native.Nat.{_*_, _≤_};
 ghost use lib.ListN.{length};
-ghost use Rattle.rows.specs.Limits.{unknowns};
 ghost use Rattle.session.specs.Limits.{lineCells};
 ghost use Rattle.session.specs.Cells.{asLent};
-ghost use Rattle.session.specs.Calls.{standing, standsOf};
+ghost use Rattle.session.specs.Calls.{standsOf, Tells};
 ghost use Rattle.order.specs.Empty.{lowestEmpty};
 use session::answers::Standing;
 use session::answers::Verdict;
@@ -31,7 +30,7 @@ fn lowest_empty(lines: &[u16], count: u16) -> Standing
 
 // It writes nothing.
 pub fn standing(s: Session, forms: &[i32], pool: &[u16], lines: &[u16]) -> Standing
-    ensures { λ r. ⌜ standsOf r ≡ standing unknowns s (asLent forms pool lines) ⌝ }
+    ensures { λ r. ⌜ Tells s (asLent forms pool lines) r ⌝ }
 {
     if let Verdict::Fail(why) = crate::entered(s, forms, pool, lines) {
         return Standing::Refused(why);

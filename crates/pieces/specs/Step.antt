@@ -1,14 +1,17 @@
 -- One step through a proof file that comes in pieces: a run over the bytes that a buffer holds, with the totals so far, the bytes that stay
 -- for the next piece to come behind them, and whether the file is decided.
+use mathlib.Core.Path.{_≡_}
 use mathlib.Core.Bool.{Bool, not, _&&_, _||_, cond}
 use mathlib.Core.List.{List, _++_}
 use Prim.Native.Nat.{ℕ, _+_, _%_, _^_}
 use lib.Dec.{eqb}
 use lib.ListN.{length, take, drop}
+use Rattle.rows.specs.Limits.{unknowns}
 use Rattle.session.specs.declared.state.Session.{Session}
 use Rattle.session.specs.Cells.{Tables}
 use Rattle.stream.specs.Run.{Totals, run}
 use Rattle.pieces.specs.declared.Next.the-variants.{GoesOn, Decided}
+use Rattle.pieces.specs.declared.Progress.{Progress}
 use Rattle.pieces.specs.declared.Judged.{Judged}
 use Rattle.pieces.specs.declared.Next as code
 
@@ -74,3 +77,8 @@ stepOf r t buffer =
       buffer = buffer;
       next = nextOf (r .next);
     }
+
+-- a piece, given the progress p and lent t and the buffer, gives r and leaves t' and buffer'
+abbrev pub Judges : Progress → Tables → List ℕ → ℕ → Bool → Judged → Tables → List ℕ → Type 0
+Judges p t buffer count last r t' buffer' =
+    stepOf r t' buffer' ≡ step unknowns (p .records) (p .bytes) (p .session) t buffer count last

@@ -2,11 +2,10 @@
 ghost use mathlib.Core.Path.{_≡_};
 ghost use Prim.Native.Nat.{_≤_};
 ghost use lib.ListN.{length, take, drop};
-ghost use Rattle.rows.specs.Limits.{unknowns};
 ghost use Rattle.session.specs.Answers.{findingOf};
 ghost use Rattle.session.specs.Cells.{asLent, asLeft};
 ghost use Rattle.stream.specs.Run.{stopNumber};
-ghost use Rattle.pieces.specs.Step.{nextBy, step, nextOf, stepOf};
+ghost use Rattle.pieces.specs.Step.{nextBy, nextOf, Judges};
 ghost use Rattle.pieces.specs.Parts.{Holding, Kept};
 use session::answers::Verdict;
 use session::state::Session;
@@ -89,8 +88,7 @@ pub fn judge_piece(
     count: usize,
     last: bool,
 ) -> Judged
-    ensures { λ r. ⌜ stepOf r (asLeft forms pool lines) (now (buffer .exit))
-        ≡ step unknowns (progress .records) (progress .bytes) (progress .session) (asLent forms pool lines) (now (buffer .entry)) count last ⌝ }
+    ensures { λ r. ⌜ Judges progress (asLent forms pool lines) (now (buffer .entry)) count last r (asLeft forms pool lines) (now (buffer .exit)) ⌝ }
 {
     let end = holding(buffer, count);
     let held = &buffer[0..end];

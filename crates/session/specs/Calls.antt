@@ -1,13 +1,15 @@
 -- What the calls start and standing do: the answer, the session and every lent cell afterwards, for every input.
+use mathlib.Core.Path.{_≡_}
 use mathlib.Core.List.{_++_}
 use Prim.Native.Nat.{ℕ}
 use lib.IntN.{pos}
 use lib.ListN.{replicate}
+use Rattle.rows.specs.Limits.{unknowns}
 use Rattle.ledger.specs.Apply.{Finding, pass, fail, finding}
 use Rattle.ledger.specs.Standing as ledger
 use Rattle.session.specs.declared.state.Session.{Session}
 use Rattle.session.specs.declared.answers.Start.{Start}
-use Rattle.session.specs.declared.answers.Start.the-variants as Starts
+use Rattle.session.specs.declared.answers.Start.the-variants as Beginnings
 use Rattle.session.specs.declared.answers.Standing.{Standing}
 use Rattle.session.specs.declared.answers.Standing.the-variants as Standings
 use Rattle.session.specs.declared.start.Begun.{Begun}
@@ -45,11 +47,15 @@ start n t = begunBy (finding (sizes n t)) n t
 
 -- what the code gives, in these terms
 abbrev pub startOf : Start → Started
-startOf Starts.Started = started
-startOf (Starts.Refused r) = notStarted (numberOf r)
+startOf Beginnings.Started = started
+startOf (Beginnings.Refused r) = notStarted (numberOf r)
 
 abbrev pub beginningOf : Begun → Tables → Beginning
 beginningOf b t = record { answer = startOf (b .start); session = b .session; tables = t }
+
+-- start, lent t, gives b and leaves t'
+abbrev pub Starts : Tables → Begun → Tables → Type 0
+Starts t b t' = beginningOf b t' ≡ start unknowns t
 
 -- ---- standing, which writes nothing
 
@@ -69,3 +75,7 @@ abbrev pub standsOf : Standing → Stands
 standsOf (Standings.Refuted i) = stands (ledger.refuted i)
 standsOf Standings.NotRefuted = stands ledger.notRefuted
 standsOf (Standings.Refused r) = noStanding (numberOf r)
+
+-- standing, given s and lent t to read, answers r
+abbrev pub Tells : Session → Tables → Standing → Type 0
+Tells s t r = standsOf r ≡ standing unknowns s t

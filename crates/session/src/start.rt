@@ -2,7 +2,7 @@
 ghost use mathlib.Core.Path.{_≡_};
 ghost use Rattle.rows.specs.Limits.{unknowns};
 ghost use Rattle.session.specs.Cells.{asLent, asLeft};
-ghost use Rattle.session.specs.Calls.{start, beginningOf};
+ghost use Rattle.session.specs.Calls.{Starts};
 ghost use Rattle.session.specs.InOrder.{sizes};
 ghost use Rattle.session.specs.Answers.{findingOf};
 ghost use Rattle.ledger.specs.Apply.{finding};
@@ -34,7 +34,7 @@ pub fn sized(forms: &[i32], pool: &[u16], lines: &[u16]) -> Verdict
 
 // A fresh session over tables that are 0 throughout; of short tables nothing is written.
 pub fn start(forms: &mut [i32], pool: &mut [u16], lines: &mut [u16]) -> Begun
-    ensures { λ r. ⌜ beginningOf r (asLeft forms pool lines) ≡ start unknowns (asLent forms pool lines) ⌝ }
+    ensures { λ r. ⌜ Starts (asLent forms pool lines) r (asLeft forms pool lines) ⌝ }
 {
     if let Verdict::Fail(why) = sized(forms, pool, lines) {
         return Begun {

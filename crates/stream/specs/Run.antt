@@ -1,8 +1,10 @@
 -- What the call run does: the records and the bytes that it accepts, the number that stops it, the session and every lent cell afterwards,
 -- for every input.
+use mathlib.Core.Path.{_≡_}
 use mathlib.Core.List.{List, [], _∷_}
 use Prim.Native.Nat.{ℕ, _+_}
 use lib.ListN.{length}
+use Rattle.rows.specs.Limits.{unknowns}
 use Rattle.ledger.specs.Record.{accepted, refused}
 use Rattle.ledger.specs.Apply.{Finding, pass, fail}
 use Rattle.ledger.specs.Split.{recordsOf}
@@ -49,3 +51,7 @@ stopNumber (fail k) = k
 
 abbrev pub totalsOf : Ran → Tables → Totals
 totalsOf r t = totals (r .records) (r .bytes) (stopNumber (findingOf (r .stop))) (r .session) t
+
+-- run, given s and the stream b and lent t, gives r and leaves t'
+abbrev pub Runs : Session → Tables → List ℕ → Ran → Tables → Type 0
+Runs s t b r t' = totalsOf r t' ≡ run unknowns s t b

@@ -9,7 +9,7 @@ ghost use Rattle.laid.specs.Held.{Held};
 ghost use Rattle.proposals.specs.Proposing.{Scratch};
 ghost use Rattle.settle.specs.Settling.{Seen};
 ghost use Rattle.checker.specs.Feed.{stepped};
-ghost use Rattle.stream.specs.Run.{totals, eachBy, run, stopNumber, totalsOf};
+ghost use Rattle.stream.specs.Run.{totals, eachBy, stopNumber, totalsOf, Runs};
 ghost use Rattle.stream.specs.Walk.{sessionWith, FrontStep};
 use checker::change;
 use records::shape::Front;
@@ -129,7 +129,7 @@ fn steps(s: Session, forms: &mut [i32], pool: &mut [u16], lines: &mut [u16], str
 
 // 1 and 2 are tested once, and then each record pays only for itself. Whatever session, tables and stream hold, nothing has to be tested first.
 pub fn run(s: Session, forms: &mut [i32], pool: &mut [u16], lines: &mut [u16], stream: &[u8]) -> Ran
-    ensures { λ r. ⌜ totalsOf r (asLeft forms pool lines) ≡ run unknowns s (asLent forms pool lines) (now (stream .entry)) ⌝ }
+    ensures { λ r. ⌜ Runs s (asLent forms pool lines) (now (stream .entry)) r (asLeft forms pool lines) ⌝ }
 {
     let verdict = order::entered(s, forms, pool, lines);
     if let Verdict::Fail(why) = verdict {

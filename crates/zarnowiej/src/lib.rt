@@ -3,13 +3,8 @@
 // specs/Crossing.antt, and asks nothing of its caller: any lengths, any cells, any session and any bytes are answered.
 mod plain;
 
-ghost use mathlib.Core.Path.{_≡_};
-ghost use Rattle.rows.specs.Limits.{unknowns};
 ghost use Rattle.session.specs.Cells.{asLent, asLeft};
-ghost use Rattle.session.specs.Calls.{start, standing};
-ghost use Rattle.checker.specs.Feed.{feed};
-ghost use Rattle.stream.specs.Run.{run};
-ghost use Rattle.zarnowiej.specs.Crossing.{sessionIn, left, startOut, feedOut, runOut, standingOut};
+ghost use Rattle.zarnowiej.specs.Crossing.{StartCrosses, FeedCrosses, RunCrosses, StandingCrosses};
 use crate::plain::Begun;
 use crate::plain::Fed;
 use crate::plain::Ran;
@@ -19,7 +14,7 @@ use crate::plain::Stands;
 // The start: a fresh session, and every named cell becomes 0. Refused with 1 where a table is too short.
 #[no_mangle]
 pub extern "C" fn zarnowiej_start(forms: &mut [i32], pool: &mut [u16], lines: &mut [u16]) -> Begun
-    ensures { λ r. ⌜ left r (asLeft forms pool lines) ≡ startOut (start unknowns (asLent forms pool lines)) ⌝ }
+    ensures { λ r. ⌜ StartCrosses (asLent forms pool lines) r (asLeft forms pool lines) ⌝ }
 {
     let begun = session::start::start(forms, pool, lines);
     let answer = begun.start;
@@ -36,7 +31,7 @@ pub extern "C" fn zarnowiej_feed(
     lines: &mut [u16],
     bytes: &[u8],
 ) -> Fed
-    ensures { λ r. ⌜ left r (asLeft forms pool lines) ≡ feedOut (feed unknowns (sessionIn s) (asLent forms pool lines) (now (bytes .entry))) ⌝ }
+    ensures { λ r. ⌜ FeedCrosses s (asLent forms pool lines) (now (bytes .entry)) r (asLeft forms pool lines) ⌝ }
 {
     let inner = crate::plain::session_in(s);
     let fed = checker::feed::feed(inner, forms, pool, lines, bytes);
@@ -54,7 +49,7 @@ pub extern "C" fn zarnowiej_run(
     lines: &mut [u16],
     stream: &[u8],
 ) -> Ran
-    ensures { λ r. ⌜ left r (asLeft forms pool lines) ≡ runOut (run unknowns (sessionIn s) (asLent forms pool lines) (now (stream .entry))) ⌝ }
+    ensures { λ r. ⌜ RunCrosses s (asLent forms pool lines) (now (stream .entry)) r (asLeft forms pool lines) ⌝ }
 {
     let inner = crate::plain::session_in(s);
     let ran = stream::run(inner, forms, pool, lines, stream);
@@ -71,7 +66,7 @@ pub extern "C" fn zarnowiej_standing(
     pool: &[u16],
     lines: &[u16],
 ) -> Stands
-    ensures { λ r. ⌜ r ≡ standingOut (standing unknowns (sessionIn s) (asLent forms pool lines)) ⌝ }
+    ensures { λ r. ⌜ StandingCrosses s (asLent forms pool lines) r ⌝ }
 {
     let inner = crate::plain::session_in(s);
     let standing = order::standing::standing(inner, forms, pool, lines);

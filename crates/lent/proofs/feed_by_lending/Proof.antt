@@ -44,10 +44,8 @@ use denote.Triple.Clauses.{ensured, lasts}
 use denote.Triple.Table.{entered, cited}
 use denote.Triple.Walked.{says, Stays, stay-none, gave-slice, stay-none-slice, walkOf, AllGo, goes-none, goes-gave-slice, goes-none-slice, Walks, ends-at, walked, walk-meets}
 use denote.Exit.{yes}
-use Rattle.rows.specs.Limits.{unknowns}
 use Rattle.session.specs.Cells as cells
-use Rattle.session.specs.Answers.{answerOf}
-use Rattle.checker.specs.Feed.{feed}
+use Rattle.checker.specs.Feed.{Feeds}
 use Rattle.session.specs.declared.state.Session.{Session}
 use Rattle.session.specs.declared.answers.Answer.{Answer}
 use Rattle.checker.specs.declared.keep.Fed.{Fed}
@@ -206,8 +204,8 @@ module _ {M : Type 1} (𝓤 : URA M) (H : Heap 𝓤) (A : Atoms 𝓤) (W : Given
   asked ν l γ = qed W ((‵ (flft (ν ∷ []) fullShare) ⊛ tokens) ∷ ‵ (fsep (Lent ν l γ) Owns) ∷ []) ∵ join ! $ frame ! $ done !
 
   abbrev Said : Answer → Session → List ℤ → List ℕ → List ℕ → Type 0
-  Said r h′ forms′ pool′ lines′ = record { answer = answerOf r; session = h′; tables = cells.tables forms′ pool′ lines′ } ≡ feed unknowns h
-      (cells.tables (forms .now) (pool .now) (lines .now)) (bytes .now)
+  Said r h′ forms′ pool′ lines′ =
+      Feeds h (cells.tables (forms .now) (pool .now) (lines .now)) (bytes .now) (together h′ r) (cells.tables forms′ pool′ lines′)
 
   exits : (r : Answer) (h′ : Session) (forms′ : List ℤ) (pool′ : List ℕ) (lines′ : List ℕ) → Said r h′ forms′ pool′ lines′
       → length forms′ ≡ length (forms .now) → length pool′ ≡ length (pool .now) → length lines′ ≡ length (lines .now)

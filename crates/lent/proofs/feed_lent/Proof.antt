@@ -44,9 +44,8 @@ use denote.Triple.Clauses.{ensured, lasts}
 use denote.Triple.Table.{entered, cited}
 use denote.Triple.Walked.{says, Stays, stay-ref, gave-slice, stay-none-slice, walkOf, AllGo, goes-ref, goes-gave-slice, goes-none-slice, Walks, ends-at, walked, walk-meets}
 use denote.Exit.{yes}
-use Rattle.rows.specs.Limits.{unknowns}
 use Rattle.session.specs.Cells as cells
-use Rattle.checker.specs.Feed.{feed, resultOf}
+use Rattle.checker.specs.Feed.{Feeds}
 use Rattle.session.specs.declared.state.Session.{Session}
 use Rattle.checker.specs.declared.keep.Fed.{Fed}
 use Rattle.session.proofs.state.Session as Sessions
@@ -187,8 +186,8 @@ module _ {M : Type 1} (𝓤 : URA M) (H : Heap 𝓤) (A : Atoms 𝓤) (W : Given
 
   -- what the core says of its result and of the tables' last lists
   abbrev Said : Fed → List ℤ → List ℕ → List ℕ → Type 0
-  Said r forms′ pool′ lines′ = resultOf r (cells.tables forms′ pool′ lines′) ≡ feed unknowns h (cells.tables (forms .now) (pool .now) (lines .now))
-      (bytes .now)
+  Said r forms′ pool′ lines′ =
+      Feeds h (cells.tables (forms .now) (pool .now) (lines .now)) (bytes .now) r (cells.tables forms′ pool′ lines′)
 
   exits : (r : Fed) (forms′ : List ℤ) (pool′ : List ℕ) (lines′ : List ℕ) → Said r forms′ pool′ lines′ → length forms′ ≡ length (forms .now)
       → length pool′ ≡ length (pool .now) → length lines′ ≡ length (lines .now) → Is Answers.the-row (r .answer)

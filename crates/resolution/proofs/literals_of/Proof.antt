@@ -10,7 +10,7 @@ use Rattle.resolution.proofs.literals_of.Statement.{statement}
 use Rattle.resolution.proofs.literals_of.Tie as tie
 
 end-before-requires : tie.Need-end-before-requires
-end-before-requires c κs = let h = c .before .before .pre .0 in omega (arith, h .size, h .few)
+end-before-requires c κs = search needs
 
 cast-from : tie.Need-cast-from
 cast-from c = search needs
@@ -19,7 +19,7 @@ add-end-before : tie.Need-add-end-before
 add-end-before c = search needs
 
 end-before-requires-2 : tie.Need-end-before-requires-2
-end-before-requires-2 c κs = let h = c .before .before .before .pre .0 in omega (arith, h .size, h .few)
+end-before-requires-2 c κs = search needs
 
 cast-end : tie.Need-cast-end
 cast-end c = search needs

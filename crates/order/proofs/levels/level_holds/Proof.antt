@@ -35,10 +35,7 @@ cast-k : tie.Need-cast-k
 cast-k c = search needs
 
 end-before-requires : tie.Need-end-before-requires
-end-before-requires c κs =
-    let a = c .before .before .before .before .before .before .before .args in
-    let h = notAbove→le (a .m) (a .here) (held (c .before)) in
-    omega arith
+end-before-requires c κs = search needs
 
 returns-3 : tie.Need-returns-3
 returns-3 c = say-no (λ p. c .if3 .taken (c .before .before .end-before .ensures ∙ p .ends))

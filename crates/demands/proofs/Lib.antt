@@ -9,3 +9,4 @@ pub mod ExamplesOnCells
 pub mod Numbers
 pub mod OnCells
 pub mod EveryCall
+pub mod EndsInside

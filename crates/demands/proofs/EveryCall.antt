@@ -46,8 +46,8 @@ use Rattle.zarnowiej.specs.declared.plain.Session.{Session as PlainSession}
 use Rattle.zarnowiej.specs.declared.plain.Begun.{Begun as PlainBegun}
 use Rattle.zarnowiej.specs.declared.plain.Fed.{Fed as PlainFed}
 use Rattle.zarnowiej.specs.declared.plain.Ran.{Ran as PlainRan}
-use Rattle.zarnowiej.specs.Crossing.{markIn, sessionIn, sessionOut, Left, fedBy, begunBy as plainBegun, StartCrosses, FeedCrosses, RunCrosses}
-use Rattle.zarnowiej.proofs.RoundTrip.{out-in}
+use Rattle.zarnowiej.specs.Crossing.{markIn, sessionIn, sessionOut, Left, fedBy, begunBy as plainBegun, runOut, StartCrosses, FeedCrosses, RunCrosses}
+use Rattle.zarnowiej.proofs.RoundTrip.{out-in, in-out}
 use Rattle.demands.specs.History.{State}
 use Rattle.demands.specs.Keeping.{Keeps, Begins}
 use Rattle.demands.proofs.OnLedger.{start-laid}
@@ -265,12 +265,16 @@ start-keeps t b t' meets =
 marks-in : (s : PlainSession) → length (s .marks) ≡ mostLevels → length (sessionIn s .marks) ≡ mostLevels
 marks-in s marks = length-map (s .marks) markIn ∙ marks
 
+-- what comes in unchanged was unchanged before it crossed
+pub unchanged-across : (s s' : PlainSession) → sessionIn s' ≡ sessionIn s → s' ≡ s
+unchanged-across s s' e = sym (in-out s') ∙ ap sessionOut e ∙ in-out s
+
 -- the session that crosses out, taken in again
 crossed : {n : ℕ} {R : Type 0} {s : Session} {t t' : Tables} (s' : Session) → Keeps n R s t s' t' → Keeps n R s t (sessionIn (sessionOut s')) t'
 crossed {n} {R} {s} {t} {t'} s' = subst (λ (x : Session). Keeps n R s t x t') (sym (out-in s'))
 
 module _ (s : PlainSession) (t : Tables) (marks : length (s .marks) ≡ mostLevels) where
-  -- what is 0 for a refusal
+  -- `what` is 0 for a refusal
   pub exported-feed-keeps : (b : List ℕ) (r : PlainFed) (t' : Tables) → FeedCrosses s t b r t'
       → Keeps unknowns (r .what ≡ 0) (sessionIn s) t (sessionIn (r .session)) t'
   exported-feed-keeps b r t' meets =
@@ -292,7 +296,16 @@ module _ (s : PlainSession) (t : Tables) (marks : length (s .marks) ≡ mostLeve
       subst (λ (x : Left PlainRan). Keeps unknowns (x .given .records ≡ 0) (sessionIn s) t (sessionIn (x .given .session)) (x .tables)) (sym meets)
       (crossed (f .session) (run-by unknowns (sessionIn s) t b (marks-in s marks)))
 
--- the refusal is 0 where there is none
+pub exported-run-first : (s : PlainSession) (t : Tables) (b : List ℕ) (r : PlainRan) (t' : Tables) → RunCrosses s t b r t'
+    → (k : ℕ) → entry unknowns (sessionIn s) t ≡ fail k → (r .records ≡ 0) × (r .bytes ≡ 0) × (r .stop ≡ k)
+exported-run-first s t b r t' meets k e =
+    let same = meets ∙ sym (ap runOut (run-refused unknowns (sessionIn s) t b k e)) in (
+      ap (λ (x : Left PlainRan). x .given .records) same,
+      ap (λ (x : Left PlainRan). x .given .bytes) same,
+      ap (λ (x : Left PlainRan). x .given .stop) same,
+    )
+
+-- `refusal` is 0 where there is none
 pub exported-start-keeps : (t : Tables) (r : PlainBegun) (t' : Tables) → StartCrosses t r t'
     → Begins unknowns ((k : ℕ) × (r .refusal ≡ suc k)) (r .refusal ≡ 0) t (sessionIn (r .session)) t'
 exported-start-keeps t r t' meets =

@@ -1,33 +1,13 @@
 -- Bytes of good shape list no more literals or terms than a line may have literals, so that what a rule makes of them is no longer than that.
 use mathlib.Core.List.{List}
-use Prim.Native.Nat.{ℕ, _≤_}
+use Prim.Native.Nat.{ℕ}
 use native.Mathlib.Omega.{arith}
-use lib.ListN.{length}
 use Rattle.ints.proofs.Lists.{length-upTo}
-use Rattle.ledger.specs.Limits.{longestLine}
-use Rattle.ledger.specs.Record.{Rule, FM, PM, RS, FK, TO, TR, EQ, TI, WK, CL, Record, make, OP, WD}
 use Rattle.ledger.specs.Record.{fm, pm, rs, fk, to, tr, eq, ti, wk, cl, ofRule, op, wd}
 use Rattle.ledger.specs.Checks.{Passed}
 use Rattle.ledger.specs.Bytes.{Bearing, unknown, bears, markOf, countFrom, shapeOf, shape, decodeAs, decode}
 use Rattle.ledger.proofs.LayoutLaws.{count-most}
-
--- how many literals or terms a rule lists
-abbrev pub listed : Rule → ℕ
-listed (FM f) = 0
-listed (PM xs) = length xs
-listed (RS p i j) = 0
-listed (FK ts) = length ts
-listed (TO a b) = 0
-listed (TR z u v) = 0
-listed (EQ z a) = 0
-listed (TI a b c) = 0
-listed (WK z g) = 0
-listed (CL ts) = length ts
-
-abbrev pub Brought : Record → Type 0
-Brought (make r) = listed r ≤ longestLine
-Brought OP = Unit {0}
-Brought WD = Unit {0}
+use Rattle.ledger.proofs.RuleLaws.{Brought}
 
 pub brought : (b : List ℕ) → Passed (shape b) → Brought (decode b)
 unfolding shape decode

@@ -11,8 +11,8 @@ use native.Mathlib.Omega.{arith}
 use Rattle.ints.specs.Tests.{all, any}
 use Rattle.rows.specs.Form.{Form}
 use Rattle.rows.specs.Truth.{Integers}
-use Rattle.ledger.specs.Ledger.{Line, premise, Ledger, add, opened}
-use Rattle.ledger.specs.Record.{Rule, FM, PM, RS, FK, TO, TR, EQ, TI, WK, CL, Record, make, OP, WD}
+use Rattle.ledger.specs.Ledger.{Line, premise, Ledger, New, newForm, newLine, add, opened}
+use Rattle.ledger.specs.Record.{Record, make, OP, WD}
 use Rattle.ledger.specs.Record.{fm, pm, RecordMark, ofRule, ruleLayout, marks}
 use Rattle.ledger.specs.Checks.{makes}
 use Rattle.ledger.specs.Apply.{done}
@@ -39,35 +39,19 @@ flatMap-latest f x xs = ap (flatMap f) (reverse-cons x xs) ∙ flatMap-append f 
 
 -- ---- what the record carries that bytes say
 
-formOf : Rule → List Form
-formOf (FM f) = f ∷ []
-formOf (PM xs) = []
-formOf (RS p i j) = []
-formOf (FK ts) = []
-formOf (TO a b) = []
-formOf (TR z u v) = []
-formOf (EQ z a) = []
-formOf (TI a b c) = []
-formOf (WK z g) = []
-formOf (CL ts) = []
+formIn : New → List Form
+formIn (newForm f) = f ∷ []
+formIn (newLine x) = []
 
-listOf : Rule → List (List ℕ)
-listOf (FM f) = []
-listOf (PM xs) = xs ∷ []
-listOf (RS p i j) = []
-listOf (FK ts) = []
-listOf (TO a b) = []
-listOf (TR z u v) = []
-listOf (EQ z a) = []
-listOf (TI a b c) = []
-listOf (WK z g) = []
-listOf (CL ts) = []
+listIn : New → List (List ℕ)
+listIn (newForm f) = []
+listIn (newLine x) = premiseLists (x ∷ [])
 
--- what a rule carries, and no other record does
-carriedBy : {A : Type 0} → (Rule → List A) → Record → List A
-carriedBy f (make r) = f r
-carriedBy f OP = []
-carriedBy f WD = []
+-- what is seen of what a rule makes of these lines, and of no other record
+carriedBy : {A : Type 0} → (New → List A) → List Line → Record → List A
+carriedBy f ls (make r) = f (makes ls r)
+carriedBy f ls OP = []
+carriedBy f ls WD = []
 
 abbrev isNone : {A : Type 0} → List A → Bool
 isNone [] = true
@@ -77,28 +61,28 @@ none : {A : Type 0} (xs : List A) → T (isNone xs) → xs ≡ []
 none [] t = refl
 none (x ∷ xs) t = absurd t
 
-module _ {A : Type 0} (f : Rule → List A) (b : List ℕ) where
+module _ {A : Type 0} (f : New → List A) (ls : List Line) (b : List ℕ) where
   -- records of the mark carry nothing
   abbrev bare : RecordMark → Bool
-  bare m = isNone (carriedBy f (fields b m))
+  bare m = isNone (carriedBy f ls (fields b m))
 
   -- nor does then the first of such marks that the bytes bear
-  first-bare : (ms : List RecordMark) → T (all bare ms) → carriedBy f (decodeAs b (firstOf b ms)) ≡ []
+  first-bare : (ms : List RecordMark) → T (all bare ms) → carriedBy f ls (decodeAs b (firstOf b ms)) ≡ []
   unfolding carriedBy
   first-bare [] p = refl
-  first-bare (m ∷ ms) p = let (this, rest) = T-and (bare m) (all bare ms) p in go (hasLetters b m) (none (carriedBy f (fields b m)) this) (first-bare ms rest)
+  first-bare (m ∷ ms) p = let (this, rest) = T-and (bare m) (all bare ms) p in go (hasLetters b m) (none (carriedBy f ls (fields b m)) this) (first-bare ms rest)
     where
-      go : (h : Bool) → carriedBy f (fields b m) ≡ [] → carriedBy f (decodeAs b (firstOf b ms)) ≡ []
-          → carriedBy f (decodeAs b (cond h (bears m) (firstOf b ms))) ≡ []
+      go : (h : Bool) → carriedBy f ls (fields b m) ≡ [] → carriedBy f ls (decodeAs b (firstOf b ms)) ≡ []
+          → carriedBy f ls (decodeAs b (cond h (bears m) (firstOf b ms))) ≡ []
       go true e r = e
       go false e r = r
 
-form-says : (b : List ℕ) → carriedBy formOf (decode b) ≡ cond (hasLetters b (ofRule fm)) (formFrom b ∷ []) []
-unfolding decode carriedBy formOf
-form-says b = go (hasLetters b (ofRule fm)) (first-bare formOf b (drop 1 marks) tt)
+form-says : (ls : List Line) (b : List ℕ) → carriedBy formIn ls (decode b) ≡ cond (hasLetters b (ofRule fm)) (formFrom b ∷ []) []
+unfolding decode carriedBy formIn makes
+form-says ls b = go (hasLetters b (ofRule fm)) (first-bare formIn ls b (drop 1 marks) tt)
   where
-    go : (h : Bool) → carriedBy formOf (decodeAs b (firstOf b (drop 1 marks))) ≡ []
-        → carriedBy formOf (decodeAs b (cond h (bears (ofRule fm)) (firstOf b (drop 1 marks)))) ≡ cond h (formFrom b ∷ []) []
+    go : (h : Bool) → carriedBy formIn ls (decodeAs b (firstOf b (drop 1 marks))) ≡ []
+        → carriedBy formIn ls (decodeAs b (cond h (bears (ofRule fm)) (firstOf b (drop 1 marks)))) ≡ cond h (formFrom b ∷ []) []
     go true e = refl
     go false e = e
 
@@ -108,60 +92,40 @@ letters-apart b f p =
     let no = eqb→eq (byteAt b 0) 80 (T-and (eqb (byteAt b 0) 80) _ p .0) in
     omega arith
 
-list-says : (b : List ℕ) → carriedBy listOf (decode b) ≡ cond (hasLetters b (ofRule pm)) (literalsBehind (ruleLayout pm .place) b ∷ []) []
-unfolding decode carriedBy listOf
-list-says b = go (hasLetters b (ofRule fm)) refl (hasLetters b (ofRule pm)) refl (first-bare listOf b (drop 2 marks) tt)
+list-says : (ls : List Line) (b : List ℕ) → carriedBy listIn ls (decode b) ≡ cond (hasLetters b (ofRule pm)) (literalsBehind (ruleLayout pm .place) b ∷ []) []
+unfolding decode carriedBy listIn makes premiseLists flatMap
+list-says ls b = go (hasLetters b (ofRule fm)) refl (hasLetters b (ofRule pm)) refl (first-bare listIn ls b (drop 2 marks) tt)
   where
-    go : (h : Bool) → hasLetters b (ofRule fm) ≡ h → (k : Bool) → hasLetters b (ofRule pm) ≡ k → carriedBy listOf (decodeAs b (firstOf b (drop 2 marks))) ≡ []
-        → carriedBy listOf (decodeAs b (cond h (bears (ofRule fm)) (cond k (bears (ofRule pm)) (firstOf b (drop 2 marks)))))
+    go : (h : Bool) → hasLetters b (ofRule fm) ≡ h → (k : Bool) → hasLetters b (ofRule pm) ≡ k → carriedBy listIn ls (decodeAs b (firstOf b (drop 2 marks))) ≡ []
+        → carriedBy listIn ls (decodeAs b (cond h (bears (ofRule fm)) (cond k (bears (ofRule pm)) (firstOf b (drop 2 marks)))))
         ≡ cond k (literalsBehind (ruleLayout pm .place) b ∷ []) []
     go true e true g r = absurd (letters-apart b (subst T (sym e) tt) (subst T (sym g) tt))
     go true e false g r = refl
     go false e true g r = refl
     go false e false g r = r
 
--- ---- one rule
+-- ---- one record more
 
 module _ (l : Ledger) where
-  form-made : (r : Rule) → add l (makes (l .lines) r) .forms ≡ l .forms ++ formOf r
-  unfolding add makes formOf
-  form-made (FM f) = refl
-  form-made (PM xs) = sym (append-nil (l .forms))
-  form-made (RS p i j) = sym (append-nil (l .forms))
-  form-made (FK ts) = sym (append-nil (l .forms))
-  form-made (TO a b) = sym (append-nil (l .forms))
-  form-made (TR z u v) = sym (append-nil (l .forms))
-  form-made (EQ z a) = sym (append-nil (l .forms))
-  form-made (TI a b c) = sym (append-nil (l .forms))
-  form-made (WK z g) = sym (append-nil (l .forms))
-  form-made (CL ts) = sym (append-nil (l .forms))
+  form-added : (x : New) → add l x .forms ≡ l .forms ++ formIn x
+  unfolding add formIn
+  form-added (newForm f) = refl
+  form-added (newLine x) = sym (append-nil (l .forms))
 
-  one-more : (x : Line) → premiseLists (l .lines ++ (x ∷ [])) ≡ premiseLists (l .lines) ++ premiseLists (x ∷ [])
-  unfolding premiseLists
-  one-more x = flatMap-append _ (l .lines) (x ∷ [])
+  list-added : (x : New) → premiseLists (add l x .lines) ≡ premiseLists (l .lines) ++ listIn x
+  unfolding add listIn premiseLists
+  list-added (newForm f) = sym (append-nil (premiseLists (l .lines)))
+  list-added (newLine x) = flatMap-append _ (l .lines) (x ∷ [])
 
-  premise-made : (r : Rule) → premiseLists (add l (makes (l .lines) r) .lines) ≡ premiseLists (l .lines) ++ listOf r
-  unfolding add makes listOf premiseLists flatMap
-  premise-made (FM f) = sym (append-nil (premiseLists (l .lines)))
-  premise-made (PM xs) = one-more _
-  premise-made (RS p i j) = one-more _
-  premise-made (FK ts) = one-more _
-  premise-made (TO a b) = one-more _
-  premise-made (TR z u v) = one-more _
-  premise-made (EQ z a) = one-more _
-  premise-made (TI a b c) = one-more _
-  premise-made (WK z g) = one-more _
-  premise-made (CL ts) = one-more _
-
-  forms-done : (r : Record) → (r ≡ WD → ⊥) → done l r .forms ≡ l .forms ++ carriedBy formOf r
+  forms-done : (r : Record) → (r ≡ WD → ⊥) → done l r .forms ≡ l .forms ++ carriedBy formIn (l .lines) r
   unfolding done opened carriedBy
-  forms-done (make r) w = form-made r
+  forms-done (make r) w = form-added (makes (l .lines) r)
   forms-done OP w = sym (append-nil (l .forms))
   forms-done WD w = absurd (w refl)
 
-  premises-done : (r : Record) → (r ≡ WD → ⊥) → premiseLists (done l r .lines) ≡ premiseLists (l .lines) ++ carriedBy listOf r
+  premises-done : (r : Record) → (r ≡ WD → ⊥) → premiseLists (done l r .lines) ≡ premiseLists (l .lines) ++ carriedBy listIn (l .lines) r
   unfolding done opened carriedBy
-  premises-done (make r) w = premise-made r
+  premises-done (make r) w = list-added (makes (l .lines) r)
   premises-done OP w = sym (append-nil (premiseLists (l .lines)))
   premises-done WD w = absurd (w refl)
 
@@ -178,11 +142,11 @@ module _ (n : ℕ) where
       let same = accepted-done n l b (decode b) refl (a .0) in (
         ap (λ (m : Ledger). m .forms) same
             ∙ forms-done l (decode b) (w .0)
-            ∙ (λ i. f i ++ form-says b i)
+            ∙ (λ i. f i ++ form-says (l .lines) b i)
             ∙ sym (flatMap-latest _ b ks),
         ap (λ (m : Ledger). premiseLists (m .lines)) same
             ∙ premises-done l (decode b) (w .0)
-            ∙ (λ i. p i ++ list-says b i)
+            ∙ (λ i. p i ++ list-says (l .lines) b i)
             ∙ sym (flatMap-latest _ b ks),
       )
 

@@ -18,7 +18,8 @@ use Rattle.ledger.specs.Numbers.{recordOrder}
 use Rattle.ledger.specs.Split.{front}
 use Rattle.ledger.specs.Run.{Misshapen, Requires}
 use Rattle.ledger.proofs.RunLaws.{frontRecord}
-use Rattle.ledger.proofs.Numbers.{number-in, checks-follow, apply-found}
+use Rattle.ledger.proofs.Numbers.{number-in, apply-found}
+use Rattle.ledger.proofs.RuleLaws.{checks-follow}
 use Rattle.ledger.proofs.LayoutLaws.{longestRecord, in-longest, count-most, list-behind}
 use Rattle.ledger.proofs.FrontLaws.{too-few, none-known, requires-fixed, count-missing, count-wrong, requires-counted, not-there}
 

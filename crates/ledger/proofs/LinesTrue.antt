@@ -17,7 +17,6 @@ use Rattle.rows.specs.Truth.{Integers}
 use Rattle.ledger.specs.Ledger.{Line, Mark, Ledger, noForm, noLine, New, newForm, newLine, add, opened, backTo, withdrawn}
 use Rattle.ledger.specs.Record.{Record, make, OP, WD}
 use Rattle.ledger.specs.Checks.{lineIn, makes, tests, checks, Passed}
-use Rattle.ledger.specs.Parents.{parents}
 use Rattle.ledger.specs.Apply.{Outcome, done, apply}
 use Rattle.ledger.specs.Bytes.{shape, decode, applyBytes}
 use Rattle.ledger.specs.History.{afterBytes}
@@ -30,8 +29,8 @@ use Rattle.ledger.proofs.TruthLaws.{Agree, lines-agree, premises-agree}
 use Rattle.ledger.proofs.Findings.{passed-front, judged-keeps, apply-keeps}
 use Rattle.ledger.proofs.LegalLaws.{named-all, legal-done, legal-fresh}
 use Rattle.ledger.proofs.StandingLaws.{standing-lowest}
-use Rattle.ledger.proofs.Brought.{Brought, brought}
-use Rattle.ledger.proofs.RuleLaws.{Owed, owed}
+use Rattle.ledger.proofs.Brought.{brought}
+use Rattle.ledger.proofs.RuleLaws.{Owed, owed, parents, Brought}
 
 -- ---- the invariant
 

@@ -12,11 +12,12 @@ use Rattle.ints.proofs.Bools.{never, T-and, and-T, T-or, or-left, or-right, T�
 use Rattle.ints.proofs.Lists.{all-agree, all-implies}
 use Rattle.ledger.specs.Literals.{holds}
 use Rattle.ledger.specs.Ledger.{Ledger}
-use Rattle.ledger.specs.Record.{FM, PM, RS, FK, TO, TR, EQ, TI, WK, CL, Record, make, OP, WD, Made, accepted, refused}
+use Rattle.ledger.specs.Record.{Record, Made, accepted, refused}
 use Rattle.ledger.specs.Checks.{Check, _else_, checks}
 use Rattle.ledger.specs.Apply.{Finding, pass, fail, finding, judged, apply, done, made}
 use Rattle.ledger.specs.Bytes.{Bearing, unknown, bears, markOf, shapeOf, shape, decode, applyBytes}
 use Rattle.ledger.specs.Numbers.{shapeOrder, recordOrder, follow, Given, distinct, earlier, failsWith, FirstOf}
+use Rattle.ledger.proofs.RuleLaws.{checks-follow}
 use Rattle.ledger.proofs.Findings.{passed→pass, pass-append, fail-append, finding-number, by-checks}
 
 -- ---- tests that follow an order
@@ -230,21 +231,6 @@ judged-number pass l d m k = (λ e. cc, λ e. cc)
 judged-number (fail i) l d m k = (λ e. cc, λ e. cc)
 
 -- ---- a record
-
-pub checks-follow : (n : ℕ) (l : Ledger) (r : Record) → T (follow recordOrder (checks n l r))
-unfolding follow checks
-checks-follow n l (make (FM f)) = tt
-checks-follow n l (make (PM xs)) = tt
-checks-follow n l (make (RS p i j)) = tt
-checks-follow n l (make (FK ts)) = tt
-checks-follow n l (make (TO a b)) = tt
-checks-follow n l (make (TR z u v)) = tt
-checks-follow n l (make (EQ z a)) = tt
-checks-follow n l (make (TI a b c)) = tt
-checks-follow n l (make (WK z g)) = tt
-checks-follow n l (make (CL ts)) = tt
-checks-follow n l OP = tt
-checks-follow n l WD = tt
 
 module _ (n : ℕ) (l : Ledger) (r : Record) (k : ℕ) where
   pub apply-found : apply n l r .answer ≡ refused k ↔ finding (checks n l r) ≡ fail k

@@ -17,18 +17,70 @@ use Rattle.rows.specs.Truth.{Integers, formTrue}
 use Rattle.rows.proofs.Sound.{totality, trichotomy, equation, weakening, tightening, farkas-sound, clash-sound}
 use Rattle.ledger.specs.Limits.{longestLine}
 use Rattle.ledger.specs.Literals.{unnegated, negated, ascending, lineOf, without, below}
-use Rattle.ledger.specs.Ledger.{Line, noLine, nthForm, nthLine, New, newForm, newLine}
-use Rattle.ledger.specs.Record.{Rule, FM, PM, RS, FK, TO, TR, EQ, TI, WK, CL, make}
-use Rattle.ledger.specs.Checks.{formIn, lineIn, formsOf, firstDivisor, resolvent, derivedLine, makes, tests, Passed}
-use Rattle.ledger.specs.Parents.{parents}
+use Rattle.ledger.specs.Ledger.{Line, noLine, nthForm, nthLine, New, newForm, newLine, Ledger}
+use Rattle.ledger.specs.Record.{Rule, FM, PM, RS, FK, TO, TR, EQ, TI, WK, CL, Record, make, OP, WD}
+use Rattle.ledger.specs.Checks.{formIn, lineIn, formsOf, firstDivisor, resolvent, derivedLine, makes, tests, Passed, checks}
+use Rattle.ledger.specs.Numbers.{recordOrder, follow}
 use Rattle.ledger.specs.Legal.{LegalLine}
 use Rattle.ledger.specs.Truth.{literalTrue, lineTrue}
 use Rattle.ledger.specs.Premises.{chosenTrue, asPremise}
 use Rattle.ints.proofs.Lists.{all-map, any-map}
-use Rattle.ledger.proofs.Brought.{Brought}
 use Rattle.ledger.proofs.LiteralLaws.{any-joined, any-lineOf, any-without, all-joined, all-lineOf, all-without}
 use Rattle.ledger.proofs.LiteralLaws.{ascending-joined, ascending-lineOf, ascending-without, ascending-negated, length-lineOf}
 use Rattle.ledger.proofs.TruthLaws.{unnegated-names, negated-names, unnegated-true, negated-true}
+
+-- ---- in which order its tests stand
+
+pub checks-follow : (n : ℕ) (l : Ledger) (r : Record) → T (follow recordOrder (checks n l r))
+unfolding follow checks
+checks-follow n l (make (FM f)) = tt
+checks-follow n l (make (PM xs)) = tt
+checks-follow n l (make (RS p i j)) = tt
+checks-follow n l (make (FK ts)) = tt
+checks-follow n l (make (TO a b)) = tt
+checks-follow n l (make (TR z u v)) = tt
+checks-follow n l (make (EQ z a)) = tt
+checks-follow n l (make (TI a b c)) = tt
+checks-follow n l (make (WK z g)) = tt
+checks-follow n l (make (CL ts)) = tt
+checks-follow n l OP = tt
+checks-follow n l WD = tt
+
+-- ---- what it lists and draws on
+
+-- how many literals or terms a rule lists
+abbrev pub listed : Rule → ℕ
+listed (FM f) = 0
+listed (PM xs) = length xs
+listed (RS p i j) = 0
+listed (FK ts) = length ts
+listed (TO a b) = 0
+listed (TR z u v) = 0
+listed (EQ z a) = 0
+listed (TI a b c) = 0
+listed (WK z g) = 0
+listed (CL ts) = length ts
+
+abbrev pub Brought : Record → Type 0
+Brought (make r) = listed r ≤ longestLine
+Brought OP = Unit {0}
+Brought WD = Unit {0}
+
+-- the lines that a rule draws on
+abbrev pub parents : Rule → List ℕ
+parents (FM f) = []
+parents (PM xs) = []
+parents (RS p i j) = i ∷ j ∷ []
+parents (FK ts) = []
+parents (TO a b) = []
+parents (TR z u v) = []
+parents (EQ z a) = []
+parents (TI a b c) = []
+parents (WK z g) = []
+parents (CL ts) = []
+
+-- ---- what is owed for what it makes
+
 
 -- over n unknowns and k forms
 abbrev pub LegalNew : ℕ → ℕ → New → Type 0

@@ -3,7 +3,6 @@ pub mod Literals
 pub mod Ledger
 pub mod Record
 pub mod Checks
-pub mod Parents
 pub mod Apply
 pub mod Settles
 pub mod Bytes

@@ -22,7 +22,7 @@ use Rattle.checker.proofs.Beside.{restored}
 use Rattle.checker.proofs.Feeding.{entry-held}
 use Rattle.stream.specs.Run.{Totals, run}
 use Rattle.pieces.proofs.RunLaid.{totalsLaid, feed-laid, run-laid}
-use Rattle.demands.specs.History.{fed, State, state, called, calledAll, EachAccepted}
+use Rattle.demands.specs.History.{fed, State, state, called, calledAll, EachAccepted, StopsInside}
 use Rattle.demands.proofs.OnLedger.{laid, fed-laid}
 
 -- what is in order is the ledger laid out that is read from it
@@ -43,26 +43,20 @@ accepted-read n x l g (b ∷ bs) (a, rest) =
           (subst (λ (r : Result). EachAccepted n (state (r .session) (r .tables)) bs) same rest),
     )
 
--- records bs, all accepted, and then a part of one more
-abbrev pub StopsInside : (n : ℕ) → State → List (List ℕ) → List ℕ → ℕ → Type 0
-StopsInside n s bs b k =
-    let r = run n (s .session) (s .tables) (flatten bs ++ take k b) in
-    (r .stop ≡ 3) × (r .records ≡ length bs) × (r .bytes ≡ length (flatten bs)) × (state (r .session) (r .tables) ≡ calledAll n s (map fed bs))
-
 -- a session has eight marks, as the code's always does
 pub ends-inside-record : (n : ℕ) (s : Session) (t : Tables) → length (s .marks) ≡ mostLevels → entry n s t ≡ pass
     → (bs : List (List ℕ)) → EachAccepted n (state s t) bs → (b : List ℕ) → Passed (shape b) → (k : ℕ) → 0 < k → k < length b
-    → StopsInside n (state s t) bs b k
+    → StopsInside n (state s t) bs (run n s t (flatten bs ++ take k b))
 ends-inside-record n s t marks e bs a b p k some less =
     let (same, g) = in-order-laid n s t marks e in
     let l = ledgerOf n s (named n t) in
     let x = excess n t in
     let good = accepted-read n x l g bs (subst (λ (q : State). EachAccepted n q bs) same a) in
     let ran = run-laid n x l g (flatten bs ++ take k b) ∙ ap (totalsLaid n x) (stops-inside n l bs good b p k some less) in
-    subst (λ (q : State). StopsInside n q bs b k) (sym same)
-    (
-      ap (λ (r : Totals). r .stop) ran,
-      ap (λ (r : Totals). r .records) ran,
-      ap (λ (r : Totals). r .bytes) ran,
-      ap (λ (r : Totals). state (r .session) (r .tables)) ran ∙ sym (fed-laid n x l g bs),
-    )
+    subst (λ (q : State). StopsInside n q bs (run n (q .session) (q .tables) (flatten bs ++ take k b))) (sym same)
+    (record {
+      stop = ap (λ (r : Totals). r .stop) ran;
+      records = ap (λ (r : Totals). r .records) ran;
+      bytes = ap (λ (r : Totals). r .bytes) ran;
+      leaves = fed-laid n x l g bs ∙ sym (ap (λ (r : Totals). state (r .session) (r .tables)) ran);
+    })

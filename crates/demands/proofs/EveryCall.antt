@@ -49,7 +49,7 @@ use Rattle.zarnowiej.specs.declared.plain.Ran.{Ran as PlainRan}
 use Rattle.zarnowiej.specs.Crossing.{markIn, sessionIn, sessionOut, Left, fedBy, begunBy as plainBegun, runOut, StartCrosses, FeedCrosses, RunCrosses}
 use Rattle.zarnowiej.proofs.RoundTrip.{out-in, in-out}
 use Rattle.demands.specs.History.{State}
-use Rattle.demands.specs.Keeping.{Keeps, Begins}
+use Rattle.demands.specs.Keeping.{RefusedBy, Keeps, Begins}
 use Rattle.demands.proofs.OnLedger.{start-laid}
 
 -- the same of a refusal that is told otherwise
@@ -150,9 +150,6 @@ module _ (n : ℕ) (s : Session) (t : Tables) (b : List ℕ) (marks : length (s 
       stays (fail k) e = ap (λ (r : Totals). excess n (r .tables)) (sym (run-refused n s t b k e))
 
 -- ---- the calls on sessions by value, which have eight marks
-
-abbrev pub RefusedBy : code.Answer → Type 0
-RefusedBy a = (why : Refusal) × (a ≡ Answers.Refused why)
 
 module _ (s : Session) (t : Tables) (marks : length (s .marks) ≡ mostLevels) where
   -- feed, and feed by lending, which promises the same

@@ -35,10 +35,10 @@ use Rattle.laid.proofs.ByIndex.{getD-upTo, take-upTo, all-upTo}
 use Rattle.laid.specs.Result.{Result}
 use Rattle.checker.specs.Feed.{feed}
 use Rattle.pieces.proofs.RunLaid.{feed-laid}
-use Rattle.demands.specs.History.{Call, fed, State, begun, called, calledAll}
+use Rattle.demands.specs.History.{Call, fed, State, begun, called, calledAll, history, now}
 use Rattle.demands.specs.Level.{StaysOpen, ClosedLevel}
 use Rattle.demands.proofs.OnLedger.{laid, fed-laid}
-use Rattle.demands.proofs.WithdrawalExact.{since, now, history-laid, read-in-force}
+use Rattle.demands.proofs.WithdrawalExact.{history-laid, read-in-force}
 
 -- ---- withdrawal gives back what stood before
 
@@ -103,7 +103,7 @@ pub withdrawal-restores : (n : ℕ) (t : Tables) → start n t .answer ≡ start
     ClosedLevel n before o xs w → calledAll n before (map fed (o ∷ (xs ++ (w ∷ [])))) ≡ before
 withdrawal-restores n t ok calls o xs w =
     subst (λ (q : State). ClosedLevel n q o xs w → calledAll n q (map fed (o ∷ (xs ++ (w ∷ [])))) ≡ q) (sym (history-laid n t ok calls))
-    (restored-laid n (excess n t) (since n t ok calls) o xs w)
+    (restored-laid n (excess n t) (history n t calls) o xs w)
 
 -- ---- the lines, as they are read
 
@@ -115,7 +115,7 @@ lines-read n s c = refl
 
 module _ (n : ℕ) (s : Session) (t : Tables) where
   abbrev literals : ℕ → List ℕ
-  literals i = literalsAt (named n t .pool) (named n t .lines) i
+  literals i = lineAt (named n t) i .literals
 
   stood : (q : ledger.Standing) → standing n s t ≡ stands q → ledger.standing (ledgerOf n s (named n t)) ≡ q
   unfolding standing
@@ -136,14 +136,14 @@ module _ (n : ℕ) (s : Session) (t : Tables) where
 
   -- refuted by line i: it is empty, and none below it
   pub lowest-empty : (i : ℕ) → standing n s t ≡ stands (refuted i)
-      → (i < s .lines) × (literals i ≡ []) × ((j : ℕ) → j < i → literals j ≡ [] → ⊥)
+      → (i < s .lines) × (lineAt (named n t) i .literals ≡ []) × ((j : ℕ) → j < i → lineAt (named n t) j .literals ≡ [] → ⊥)
   lowest-empty i e =
       let (inside, empty, below) = standing-lowest (ledgerOf n s (named n t)) i (stood (refuted i) e) in
       let h : i < s .lines = omega (arith, inside, count) in
       (h, sym (read i h) ∙ empty, λ j l. filled j (omega arith) (below j l))
 
   -- not refuted: no line is empty
-  pub none-empty : standing n s t ≡ stands notRefuted → (j : ℕ) → j < s .lines → literals j ≡ [] → ⊥
+  pub none-empty : standing n s t ≡ stands notRefuted → (j : ℕ) → j < s .lines → lineAt (named n t) j .literals ≡ [] → ⊥
   none-empty e j h = filled j h (standing-none (ledgerOf n s (named n t)) (stood notRefuted e) j (omega (arith, count)))
 
 -- ---- every line in force is true wherever the premises up to it are
@@ -156,11 +156,11 @@ pub line-true : (n : ℕ) (t : Tables) → start n t .answer ≡ started → (ca
     → ((j : ℕ) → j ≤ i → originAt (c .lines) j ≡ premise → T (lineTrue ρ forms (lineAt c j)))
     → T (lineTrue ρ forms (lineAt c i))
 line-true n t ok calls ρ i h premises =
-    let q = now n t ok calls in
+    let q = now n t calls in
     let c = named n (q .tables) in
     let l = ledgerOf n (q .session) c in
     let m = q .session .lines in
-    let good : Good n l = subst (Good n) (sym (read-in-force n t ok calls)) (good-after-bytes n (bytesInForce n (since n t ok calls))) in
+    let good : Good n l = subst (Good n) (sym (read-in-force n t ok calls)) (good-after-bytes n (bytesInForce n (history n t calls))) in
     let same = lines-read n (q .session) c in
     let given =
     all-upTo (asPremise ρ (l .forms)) (suc i) (lineAt c)

@@ -14,11 +14,11 @@ use Rattle.ledger.specs.Carried.{formsCarried, listsCarried, satisfied}
 use Rattle.ledger.proofs.InForce.{bytes-in-force}
 use Rattle.ledger.proofs.StruckOut.{in-force-remains, in-force-only, in-force-no-wd, open-levels}
 use Rattle.ledger.proofs.Carried.{forms-carried, premises-carried, premises-satisfied}
-use Rattle.session.specs.Cells.{Tables, named, ledgerOf}
+use Rattle.session.specs.Cells.{Tables}
 use Rattle.session.specs.Calls.{started, start, stands, standing}
 use Rattle.laid.specs.Laid.{sessionOf}
-use Rattle.demands.specs.History.{Call, fed, begun, calledAll, history, StillInForce, EachAccepted}
-use Rattle.demands.proofs.WithdrawalExact.{stillInForce, now, history-laid, exact, read-in-force, refuted-means-refuted}
+use Rattle.demands.specs.History.{Call, fed, begun, calledAll, now, read, history, StillInForce, EachAccepted}
+use Rattle.demands.proofs.WithdrawalExact.{stillInForce, history-laid, exact, read-in-force, refuted-means-refuted}
 
 -- ---- there are records still in force, and no two lists of them
 
@@ -35,11 +35,7 @@ module _ (n : ℕ) (t : Tables) (calls : List Call) where
 -- ---- and of these, over n unknowns, after any calls since a start that was accepted
 
 module _ (n : ℕ) (t : Tables) (ok : start n t .answer ≡ started) (calls : List Call) where
-  -- what is read from session and tables
-  abbrev pub read : Ledger
-  read = ledgerOf n (now n t ok calls .session) (named n (now n t ok calls .tables))
-
-  read-after : read ≡ afterBytes n (history n t calls)
+  read-after : read n (now n t calls) ≡ afterBytes n (history n t calls)
   read-after = read-in-force n t ok calls ∙ bytes-in-force n (history n t calls) .0
 
   module _ (bs : List (List ℕ)) (inForce : StillInForce n t calls bs) where
@@ -47,24 +43,24 @@ module _ (n : ℕ) (t : Tables) (ok : start n t .answer ≡ started) (calls : Li
     pub withdrawal-exact : (calledAll n (begun n t) calls ≡ calledAll n (begun n t) (map fed bs)) × EachAccepted n (begun n t) bs
     withdrawal-exact = rw (only-in-force n t calls bs inForce) (exact n t ok calls)
 
-    pub forms-of-records : read .forms ≡ formsCarried bs
+    pub forms-of-records : read n (now n t calls) .forms ≡ formsCarried bs
     forms-of-records =
         rw (only-in-force n t calls bs inForce) (ap (λ (l : Ledger). l .forms) read-after ∙ forms-carried n (history n t calls))
 
-    pub premises-of-records : premiseLists (read .lines) ≡ listsCarried bs
+    pub premises-of-records : premiseLists (read n (now n t calls) .lines) ≡ listsCarried bs
     premises-of-records =
         rw (only-in-force n t calls bs inForce) (ap (λ (l : Ledger). premiseLists (l .lines)) read-after ∙ premises-carried n (history n t calls))
 
-    pub refuted-means-none : (i : ℕ) → standing n (now n t ok calls .session) (now n t ok calls .tables) ≡ stands (refuted i)
+    pub refuted-means-none : (i : ℕ) → standing n (now n t calls .session) (now n t calls .tables) ≡ stands (refuted i)
         → (ρ : Integers) → T (satisfied ρ (formsCarried bs) (listsCarried bs)) → ⊥
     refuted-means-none i e ρ s =
         refuted-means-refuted n t ok calls i e ρ
-        (rw (premises-satisfied ρ (read .forms) (read .lines), forms-of-records, premises-of-records) s)
+        (rw (premises-satisfied ρ (read n (now n t calls) .forms) (read n (now n t calls) .lines), forms-of-records, premises-of-records) s)
 
     pub no-withdrawal-in-force : NoWD (reverse bs)
     no-withdrawal-in-force = rw (only-in-force n t calls bs inForce, reverse-reverse) (in-force-no-wd n (history n t calls))
 
     -- an OP for each open level
-    pub opens-in-force : opCount (reverse bs) ≡ now n t ok calls .session .«open»
+    pub opens-in-force : opCount (reverse bs) ≡ now n t calls .session .«open»
     unfolding sessionOf
     opens-in-force = rw (only-in-force n t calls bs inForce, history-laid n t ok calls, reverse-reverse) (open-levels n (history n t calls))

@@ -2,7 +2,7 @@
 use mathlib.Core.Path.{_≡_, refl, sym, ap, subst}
 use mathlib.Core.Logic.{inl, inr}
 use mathlib.Core.List.{List, [], _∷_, map, flatten}
-use Prim.Native.Nat.{ℕ, suc, _+_, _≤_}
+use Prim.Native.Nat.{ℕ, suc, _+_}
 use native.Mathlib.Omega.{arith}
 use lib.ListN.{length, take, length-append}
 use Rattle.ledger.specs.Record.{Answer, accepted, refused, isAccepted}
@@ -16,7 +16,7 @@ use Rattle.checker.specs.Feed.{feed}
 use Rattle.checker.proofs.FeedLaws.{refused-unchanged}
 use Rattle.stream.specs.Run.{Totals, totals, eachBy, runBy, run}
 use Rattle.stream.proofs.Running.{each-on, each-stops}
-use Rattle.demands.specs.History.{fed, state, calledAll, EachAccepted, Stops}
+use Rattle.demands.specs.History.{fed, state, calledAll, EachAccepted, Stops, Leaves}
 
 -- the same run, where k records and c bytes were counted before
 record Counted (k c : ℕ) (q r : Totals) : Type 0 where
@@ -88,19 +88,16 @@ module _ (n : ℕ) (s : Session) (t : Tables) (b : List ℕ) where
   unfolding run
   run-stops-at-first-bad e = rw e (each-stops-first n s t (recordsOf b))
 
-  -- whatever stops it, a run leaves what the records leave that it counts
-  abbrev Leaves : Totals → Type 0
-  Leaves r =
-      (r .records ≤ length (recordsOf b))
-      × (calledAll n (state s t) (map fed (take (r .records) (recordsOf b))) ≡ state (r .session) (r .tables))
-      × (r .bytes ≡ length (flatten (take (r .records) (recordsOf b))))
-
-  pub run-leaves : Leaves (run n s t b)
+  pub run-leaves : Leaves n (state s t) (recordsOf b) (run n s t b)
   unfolding run calledAll flatten
   run-leaves = by (entry n s t)
     where
-      by : (f : Finding) → Leaves (runBy f n s t b)
+      by : (f : Finding) → Leaves n (state s t) (recordsOf b) (runBy f n s t b)
       by pass =
           let h = each-stops-first n s t (recordsOf b) in
-          (elim (h .end) [ inl e ↦ omega (arith, e .1) | inr e ↦ omega (arith, e .0) ], h .leaves, h .bytes)
-      by (fail k) = (omega arith, refl, refl)
+          record {
+            some = elim (h .end) [ inl e ↦ omega (arith, e .1) | inr e ↦ omega (arith, e .0) ];
+            leaves = h .leaves;
+            bytes = h .bytes;
+          }
+      by (fail k) = record { some = omega arith; leaves = refl; bytes = refl }

@@ -82,8 +82,8 @@ module _ (n : ℕ) where
   module _ (f : RunChecker) (meets : MeetsRun n f) where
     pub inventing-breaks : InventsTotals n f → ⊥
     inventing-breaks (u, v, b, invents) =
-        let (within, leaves, bytes) = run-leaves n u v b in
-        invents (run n u v b .records) within (rw (meets u v b) leaves) (ap (λ (r : Totals). r .records) (meets u v b)) (rw (meets u v b) bytes)
+        let l = run-leaves n u v b in
+        invents (run n u v b .records) (l .some) (rw (meets u v b) (l .leaves)) (ap (λ (r : Totals). r .records) (meets u v b)) (rw (meets u v b) (l .bytes))
 
   -- ---- a member of each class
 

@@ -2,13 +2,14 @@
 use mathlib.Core.Path.{_≡_}
 use mathlib.Core.Logic.{_⊎_}
 use mathlib.Core.List.{List, [], _∷_, _++_, map, flatten, reverse}
-use Prim.Native.Nat.{ℕ, _<_}
+use Prim.Native.Nat.{ℕ, _≤_, _<_}
 use lib.ListN.{length, take, getD}
+use Rattle.ledger.specs.Ledger.{Ledger}
 use Rattle.ledger.specs.Record.{refused, isAccepted}
 use Rattle.ledger.specs.Split.{recordsOf}
 use Rattle.ledger.specs.History.{InForce}
 use Rattle.session.specs.declared.state.Session.{Session}
-use Rattle.session.specs.Cells.{Tables}
+use Rattle.session.specs.Cells.{Tables, named, ledgerOf}
 use Rattle.session.specs.Calls.{start}
 use Rattle.checker.specs.Feed.{feed}
 use Rattle.stream.specs.Run.{Totals, run}
@@ -38,6 +39,14 @@ called n s (ran b) = state (run n (s .session) (s .tables) b .session) (run n (s
 unfoldable pub calledAll : ℕ → State → List Call → State
 calledAll n s [] = s
 calledAll n s (c ∷ cs) = calledAll n (called n s c) cs
+
+-- what calls leave since the start
+abbrev pub now : ℕ → Tables → List Call → State
+now n t cs = calledAll n (begun n t) cs
+
+-- the ledger that is read from what they leave
+abbrev pub read : ℕ → State → Ledger
+read n s = ledgerOf n (s .session) (named n (s .tables))
 
 -- ---- the records that calls fed
 
@@ -73,3 +82,16 @@ pub record Stops (n : ℕ) (s : State) (bs : List (List ℕ)) (r : Totals) : Typ
   pub bytes : r .bytes ≡ length (flatten (take (r .records) bs))
   pub end : ((r .stop ≡ 0) × (r .records ≡ length bs))
       ⊎ ((r .records < length bs) × (feed n (r .session) (r .tables) (getD bs (r .records) []) .answer ≡ refused (r .stop)))
+
+-- whatever stops it: the records that it counts leave what it leaves, and have the bytes that it counts
+pub record Leaves (n : ℕ) (s : State) (bs : List (List ℕ)) (r : Totals) : Type 0 where
+  pub some : r .records ≤ length bs
+  pub leaves : calledAll n s (map fed (take (r .records) bs)) ≡ state (r .session) (r .tables)
+  pub bytes : r .bytes ≡ length (flatten (take (r .records) bs))
+
+-- it stops with 3 behind the records bs
+pub record StopsInside (n : ℕ) (s : State) (bs : List (List ℕ)) (r : Totals) : Type 0 where
+  pub stop : r .stop ≡ 3
+  pub records : r .records ≡ length bs
+  pub bytes : r .bytes ≡ length (flatten bs)
+  pub leaves : calledAll n s (map fed bs) ≡ state (r .session) (r .tables)

@@ -3,8 +3,15 @@ use mathlib.Core.Path.{_≡_}
 use Prim.Native.Nat.{ℕ}
 use Rattle.ledger.specs.Apply.{pass}
 use Rattle.session.specs.declared.state.Session.{Session}
+use Rattle.session.specs.declared.answers.Refusal.{Refusal}
+use Rattle.session.specs.declared.answers.Answer as code
+use Rattle.session.specs.declared.answers.Answer.the-variants as Answers
 use Rattle.session.specs.Cells.{Tables, named, excess, freshSession}
 use Rattle.session.specs.Calls.{entry, zeroTables}
+
+-- an answer that is a refusal
+abbrev pub RefusedBy : code.Answer → Type 0
+RefusedBy a = (why : Refusal) × (a ≡ Answers.Refused why)
 
 -- over n unknowns, of a call that got s and t and left s' and t'
 pub record Keeps (n : ℕ) (Refused : Type 0) (s : Session) (t : Tables) (s' : Session) (t' : Tables) : Type 0 where

@@ -81,7 +81,6 @@ parents (CL ts) = []
 
 -- ---- what is owed for what it makes
 
-
 -- over n unknowns and k forms
 abbrev pub LegalNew : ℕ → ℕ → New → Type 0
 LegalNew n k (newForm f) = T (legal n f)

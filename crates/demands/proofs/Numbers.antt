@@ -15,7 +15,7 @@ use Rattle.ledger.specs.Record.{Answer, accepted, refused, isAccepted}
 use Rattle.ledger.specs.Checks.{Check, checks, Passed}
 use Rattle.ledger.specs.Apply.{Finding, pass, fail, finding, Outcome}
 use Rattle.ledger.specs.Bytes.{shape, decode, applyBytes}
-use Rattle.ledger.specs.Numbers.{shapeOrder, recordOrder, numberOrder, follow, Given}
+use Rattle.ledger.specs.Numbers.{shapeOrder, recordOrder, follow, Given}
 use Rattle.ledger.specs.Split.{recordsOf}
 use Rattle.ledger.proofs.Findings.{pass→passed, passed→pass, pass-append, fail-append}
 use Rattle.ledger.proofs.Numbers.{follow-append, number-in, holds-all, given-exactly, byteTests, bytes-follow, bytes-found}
@@ -27,7 +27,7 @@ use Rattle.session.specs.Calls.{notStarted, begunBy, start, noStanding, standsB
 use Rattle.laid.specs.Result.{settled}
 use Rattle.checker.specs.Feed.{stepped, fedBy, feed}
 use Rattle.stream.specs.Run.{eachBy, runBy, run}
-use Rattle.demands.specs.Numbers.{feedTests}
+use Rattle.demands.specs.Numbers.{feedTests, numberOrder}
 
 -- ---- the order
 

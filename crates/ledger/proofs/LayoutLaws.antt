@@ -1,4 +1,5 @@
--- The table of marks, each line tested once: every record has its two letters, a count stands behind them, and no record is too long.
+-- The table of marks, each line tested once: every record has its two letters, a count stands behind them, what has no count says nothing of one,
+-- and no record is too long.
 use mathlib.Core.Path.{_≡_}
 use mathlib.Core.Bool.{true, not, _&&_, _||_}
 use Prim.Native.Nat.{ℕ, _+_, _*_, _≤_, _<_}
@@ -22,23 +23,24 @@ Sensible l =
     × T (leb (l .each) 6)
     × T (leb (l .bytes + l .each * l .most) longestRecord)
     × T (not (l .counted) || (leb 2 (l .place) && eqb (l .bytes) (l .place + 1)))
+    × T (l .counted || eqb (l .place + l .least + l .most + l .each) 0)
 
 of-rule : (m : RuleMark) → Sensible (layout (ofRule m))
-of-rule fm = (tt, tt, tt, tt, tt)
-of-rule pm = (tt, tt, tt, tt, tt)
-of-rule rs = (tt, tt, tt, tt, tt)
-of-rule fk = (tt, tt, tt, tt, tt)
-of-rule to = (tt, tt, tt, tt, tt)
-of-rule tr = (tt, tt, tt, tt, tt)
-of-rule eq = (tt, tt, tt, tt, tt)
-of-rule ti = (tt, tt, tt, tt, tt)
-of-rule wk = (tt, tt, tt, tt, tt)
-of-rule cl = (tt, tt, tt, tt, tt)
+of-rule fm = (tt, tt, tt, tt, tt, tt)
+of-rule pm = (tt, tt, tt, tt, tt, tt)
+of-rule rs = (tt, tt, tt, tt, tt, tt)
+of-rule fk = (tt, tt, tt, tt, tt, tt)
+of-rule to = (tt, tt, tt, tt, tt, tt)
+of-rule tr = (tt, tt, tt, tt, tt, tt)
+of-rule eq = (tt, tt, tt, tt, tt, tt)
+of-rule ti = (tt, tt, tt, tt, tt, tt)
+of-rule wk = (tt, tt, tt, tt, tt, tt)
+of-rule cl = (tt, tt, tt, tt, tt, tt)
 
 sensible : (m : RecordMark) → Sensible (layout m)
 sensible (ofRule m) = of-rule m
-sensible op = (tt, tt, tt, tt, tt)
-sensible wd = (tt, tt, tt, tt, tt)
+sensible op = (tt, tt, tt, tt, tt, tt)
+sensible wd = (tt, tt, tt, tt, tt, tt)
 
 -- a record begins with two letters
 pub two-letters : (m : RecordMark) → 2 ≤ layout m .bytes

@@ -24,8 +24,7 @@ use Rattle.ledger.specs.History.{afterBytes}
 use Rattle.ledger.specs.Legal.{lineBelow, LegalLine, MarksIn, Named, Legal}
 use Rattle.ledger.proofs.Findings.{passed-front, passed-back, judged-keeps, apply-keeps}
 use Rattle.ledger.proofs.Withdrawal.{marked-add, marked-done}
-use Rattle.ledger.proofs.Brought.{brought}
-use Rattle.ledger.proofs.RuleLaws.{Brought, LegalNew, owed}
+use Rattle.ledger.proofs.RuleLaws.{Brought, brought, LegalNew, owed}
 
 pub literals-append : (ls ks : List Line) → literalCount (ls ++ ks) ≡ literalCount ls + literalCount ks
 literals-append [] ks = omega arith

@@ -6,7 +6,6 @@ pub mod StruckOut
 pub mod LiteralLaws
 pub mod TruthLaws
 pub mod LayoutLaws
-pub mod Brought
 pub mod RuleLaws
 pub mod Numbers
 pub mod StandingLaws

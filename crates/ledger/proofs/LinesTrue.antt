@@ -29,8 +29,7 @@ use Rattle.ledger.proofs.TruthLaws.{Agree, lines-agree, premises-agree}
 use Rattle.ledger.proofs.Findings.{passed-front, judged-keeps, apply-keeps}
 use Rattle.ledger.proofs.LegalLaws.{named-all, legal-done, legal-fresh}
 use Rattle.ledger.proofs.StandingLaws.{standing-lowest}
-use Rattle.ledger.proofs.Brought.{brought}
-use Rattle.ledger.proofs.RuleLaws.{Owed, owed, parents, Brought}
+use Rattle.ledger.proofs.RuleLaws.{Owed, owed, parents, Brought, brought}
 
 -- ---- the invariant
 

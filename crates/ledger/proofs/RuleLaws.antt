@@ -1,4 +1,5 @@
--- What is shown rule by rule: where a rule's tests pass, what it makes is legal, and true where the lines that it draws on are.
+-- What is shown rule by rule: in which order a rule's tests stand; how much it lists, and which lines it draws on; and where its tests pass, that what
+-- it makes is legal, and true where the lines that it draws on are.
 use mathlib.Core.Path.{_≡_, refl, ap, _∙_}
 use mathlib.Core.Bool.{Bool, true, false, not, _&&_, _||_, or-false}
 use mathlib.Core.List.{List, [], _∷_, map}
@@ -9,6 +10,7 @@ use lib.IntN.{pos}
 use lib.ListN.{length, getD, length-map}
 use lib.Signed.{leZ}
 use Rattle.ints.specs.Tests.{all, any}
+use Rattle.ints.proofs.Lists.{length-upTo}
 use Rattle.ints.proofs.Bools.{T-and, and-T, or-left, or-right}
 use Rattle.rows.specs.Limits.{largestMultiplier}
 use Rattle.rows.specs.Form.{Form, legal}
@@ -20,7 +22,10 @@ use Rattle.ledger.specs.Literals.{unnegated, negated, ascending, lineOf,
 use Rattle.ledger.specs.Ledger.{Line, noLine, nthForm, nthLine, New, newForm, newLine, Ledger}
 use Rattle.ledger.specs.Record.{Rule, FM, PM, RS, FK, TO, TR, EQ, TI, WK, CL, Record, make, OP, WD}
 use Rattle.ledger.specs.Checks.{formIn, lineIn, formsOf, firstDivisor, resolvent, derivedLine, makes, tests, Passed, checks}
+use Rattle.ledger.specs.Record.{fm, pm, rs, fk, to, tr, eq, ti, wk, cl, ofRule, op, wd}
 use Rattle.ledger.specs.Numbers.{recordOrder, follow}
+use Rattle.ledger.specs.Bytes.{Bearing, unknown, bears, markOf, countFrom, shapeOf, shape, decodeAs, decode}
+use Rattle.ledger.proofs.LayoutLaws.{count-most}
 use Rattle.ledger.specs.Legal.{LegalLine}
 use Rattle.ledger.specs.Truth.{literalTrue, lineTrue}
 use Rattle.ledger.specs.Premises.{chosenTrue, asPremise}
@@ -65,6 +70,26 @@ abbrev pub Brought : Record → Type 0
 Brought (make r) = listed r ≤ longestLine
 Brought OP = Unit {0}
 Brought WD = Unit {0}
+
+-- bytes of good shape list no more literals or terms than a line may have literals
+pub brought : (b : List ℕ) → Passed (shape b) → Brought (decode b)
+unfolding shape decode
+brought b p = go (markOf b) (p .1)
+  where
+    go : (m : Bearing) → Passed (shapeOf b m) → Brought (decodeAs b m)
+    go unknown q = tt
+    go (bears op) q = tt
+    go (bears wd) q = tt
+    go (bears (ofRule fm)) q = omega arith
+    go (bears (ofRule pm)) q = rw length-upTo (count-most (ofRule pm) (countFrom (ofRule pm) b) (q .1 .1 .0))
+    go (bears (ofRule rs)) q = omega arith
+    go (bears (ofRule fk)) q = rw length-upTo (count-most (ofRule fk) (countFrom (ofRule fk) b) (q .1 .1 .0))
+    go (bears (ofRule to)) q = omega arith
+    go (bears (ofRule tr)) q = omega arith
+    go (bears (ofRule eq)) q = omega arith
+    go (bears (ofRule ti)) q = omega arith
+    go (bears (ofRule wk)) q = omega arith
+    go (bears (ofRule cl)) q = rw length-upTo (count-most (ofRule cl) (countFrom (ofRule cl) b) (q .1 .1 .0))
 
 -- the lines that a rule draws on
 abbrev pub parents : Rule → List ℕ

@@ -17,10 +17,6 @@ shapeOrder = 3 ∷ 4 ∷ 3 ∷ 5 ∷ 3 ∷ []
 abbrev pub recordOrder : List ℕ
 recordOrder = 6 ∷ 8 ∷ 9 ∷ 10 ∷ 11 ∷ 12 ∷ 13 ∷ 7 ∷ []
 
--- 1, 2, the record's shape, 6, 8, 9, 10, 11, 12, 13, 7
-abbrev pub numberOrder : List ℕ
-numberOrder = 1 ∷ 2 ∷ (shapeOrder ++ recordOrder)
-
 -- first come tests with the first number, then tests with the next, and so on; of each number there may be any count of tests, or none
 unfoldable pub follow : List ℕ → List Check → Bool
 follow ns [] = true

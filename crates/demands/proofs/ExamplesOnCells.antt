@@ -1,6 +1,7 @@
 -- Every example of the one list holds of feed, run and standing: from a start on, the bytes give the answer, the session and the cells that are
--- expected of them.
+-- expected of them. And on each session and tables that are out of order every call is refused.
 use mathlib.Core.Path.{_≡_, refl, sym, ap, subst, _∙_}
+use mathlib.Core.Logic.{_⊎_, inl, inr}
 use mathlib.Core.Bool.{_&&_, and-true}
 use mathlib.Core.List.{List, [], _∷_, _++_, map, append-assoc}
 use Prim.Native.Nat.{ℕ, _+_, _*_, _≤_, _<_}
@@ -19,7 +20,7 @@ use Rattle.ledger.specs.Limits.{mostForms, mostLines, mostLiterals, mostLevels}
 use Rattle.ledger.specs.Ledger.{Line, Ledger, fresh, literalCount, newForm, newLine, add, opened}
 use Rattle.ledger.specs.Record.{accepted, form, line}
 use Rattle.ledger.specs.Legal.{Legal}
-use Rattle.ledger.specs.Apply.{Outcome}
+use Rattle.ledger.specs.Apply.{Finding, pass, fail, Outcome}
 use Rattle.ledger.specs.Bytes.{applyBytes}
 use Rattle.ledger.specs.Run.{fedAll, AllAccepted}
 use Rattle.ledger.specs.Run as ledger
@@ -31,7 +32,8 @@ use Rattle.ledger.proofs.ExampleLaws.{same-numbers, same-outcome, fed-same, fed
 use Rattle.session.specs.Cells.{Tables, tables, named, excess, withExcess, ledgerOf}
 use Rattle.session.specs.Limits.{formCells, formTable, poolTable, lineTable}
 use Rattle.session.specs.Effects.{written, withForm, withLine}
-use Rattle.session.specs.Calls.{started, start, stands, standing}
+use Rattle.session.specs.Calls.{entry, started, start, stands, standing}
+use Rattle.session.specs.Examples as Damaged
 use Rattle.laid.specs.Laid.{sessionOf, tablesOf}
 use Rattle.laid.specs.Result.{Result}
 use Rattle.laid.proofs.LaidParts.{legal-row, length-cells}
@@ -41,7 +43,7 @@ use Rattle.checker.proofs.Beside.{laid-held, entry-beside}
 use Rattle.stream.specs.Run.{Totals, run}
 use Rattle.pieces.proofs.RunLaid.{legal-fed, legal-run, resultLaid, totalsLaid, ledger-read, feed-laid, run-laid}
 use Rattle.demands.specs.History.{fed, State, begun, calledAll, EachAccepted}
-use Rattle.demands.specs.Examples.{hopedCells, AllMeet, refutedLine, printed, HoldsOnCells, AllHoldOnCells}
+use Rattle.demands.specs.Examples.{hopedCells, AllMeet, refutedLine, printed, HoldsOnCells, AllHoldOnCells, Refuses, AllJudged}
 use Rattle.demands.proofs.OnLedger.{laid, start-laid, fed-laid, accepted-laid}
 
 -- what is written in front of an excess leaves the excess
@@ -208,3 +210,23 @@ module _ (t : Tables) (ok : start unknowns t .answer ≡ started) where
 
   pub examples-hold : AllHoldOnCells t examples
   examples-hold = hold-on-cells examples all-hold
+
+-- ---- sessions and tables out of order
+
+judged : (e : Damaged.Example) → T (Damaged.holds e) → ((e .number ≡ 0) × (entry unknowns (e .session) (e .tables) ≡ pass)) ⊎ Refuses e
+unfolding Damaged.holds feed run standing
+judged e h = by (entry unknowns (e .session) (e .tables)) refl h
+  where
+    by : (f : Finding) → entry unknowns (e .session) (e .tables) ≡ f → T (Damaged.isFound (e .number) f)
+        → ((e .number ≡ 0) × (entry unknowns (e .session) (e .tables) ≡ pass)) ⊎ Refuses e
+    by pass same h = inl (eqb→eq (e .number) 0 h, same)
+    by (fail k) same h =
+        let number = eqb→eq (e .number) k h in
+        inr (λ b. (rw (same, number), rw (same, number), rw (same, number)))
+
+all-judged : (es : List Damaged.Example) → T (all Damaged.holds es) → AllJudged es
+all-judged [] h = tt
+all-judged (e ∷ es) h = let (this, rest) = T-and (Damaged.holds e) (all Damaged.holds es) h in (judged e this, all-judged es rest)
+
+pub damaged-refused : AllJudged Damaged.examples
+damaged-refused = all-judged Damaged.examples Damaged.all-hold

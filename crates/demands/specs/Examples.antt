@@ -1,19 +1,21 @@
 -- The examples of the ledger on session and cells: what feed, run and standing are expected to give for each, from a start on.
 use mathlib.Core.Path.{_≡_}
+use mathlib.Core.Logic.{_⊎_}
 use mathlib.Core.List.{List, [], _∷_, map}
 use Prim.Native.Nat.{ℕ, _+_, _*_}
 use lib.ListN.{length}
 use Rattle.rows.specs.Limits.{unknowns}
 use Rattle.ledger.specs.Record.{accepted, refused, form, line, level}
+use Rattle.ledger.specs.Apply.{pass}
 use Rattle.ledger.specs.Standing.{refuted, notRefuted}
 use Rattle.ledger.specs.Examples.{Expected, refuses, makesForm, makesLine, opens, closes, Try, Example, after, replays}
-use Rattle.session.specs.declared.state.Session.{Session}
 use Rattle.session.specs.Cells.{Tables, tables}
 use Rattle.session.specs.Effects.{written, withForm, withLine, withLevel}
-use Rattle.session.specs.Calls.{Stands, stands, noStanding, standing}
-use Rattle.laid.specs.Result.{Result}
+use Rattle.session.specs.Calls.{entry, Stands, stands, noStanding, standing}
+use Rattle.session.specs.Examples as Damaged
+use Rattle.laid.specs.Result.{Result, unchanged}
 use Rattle.checker.specs.Feed.{feed}
-use Rattle.stream.specs.Run.{Totals, run}
+use Rattle.stream.specs.Run.{Totals, totals, run}
 use Rattle.demands.specs.History.{fed, State, begun, calledAll, EachAccepted}
 
 -- the answer, the session and every cell that are expected of a record fed to s, where t was lent to the start: a form has 15 cells, a line 2
@@ -68,3 +70,18 @@ HoldsOnCells t (replays file numbers) = printed (run unknowns (begun unknowns t 
 abbrev pub AllHoldOnCells : Tables → List Example → Type 0
 AllHoldOnCells t [] = Unit {0}
 AllHoldOnCells t (e ∷ es) = HoldsOnCells t e × AllHoldOnCells t es
+
+-- ---- sessions and tables out of order
+
+-- every call on it is refused with the number, whatever the bytes are, and changes nothing
+abbrev pub Refuses : Damaged.Example → Type 0
+Refuses e =
+    (b : List ℕ)
+    → (feed unknowns (e .session) (e .tables) b ≡ unchanged (e .number) (e .session) (e .tables))
+    × (run unknowns (e .session) (e .tables) b ≡ totals 0 0 (e .number) (e .session) (e .tables))
+    × (standing unknowns (e .session) (e .tables) ≡ noStanding (e .number))
+
+-- or it is in order, where the number is 0
+abbrev pub AllJudged : List Damaged.Example → Type 0
+AllJudged [] = Unit {0}
+AllJudged (e ∷ es) = (((e .number ≡ 0) × (entry unknowns (e .session) (e .tables) ≡ pass)) ⊎ Refuses e) × AllJudged es

@@ -5,3 +5,4 @@ pub mod Parts
 pub mod Answers
 pub mod Calls
 pub mod Effects
+pub mod Examples

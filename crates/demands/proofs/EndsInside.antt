@@ -1,6 +1,6 @@
 -- A run over a stream that ends inside a record stops there with 3, and keeps what the records before it made.
-use mathlib.Core.Path.{_≡_, refl, sym, ap, subst, _∙_}
-use mathlib.Core.List.{List, [], _∷_, _++_, map, flatten}
+use mathlib.Core.Path.{_≡_, sym, ap, subst, _∙_}
+use mathlib.Core.List.{List, [], _∷_, _++_, flatten}
 use Prim.Native.Nat.{ℕ, _<_}
 use lib.ListN.{length, take}
 use Rattle.ledger.specs.Limits.{mostLevels}
@@ -22,7 +22,7 @@ use Rattle.checker.proofs.Beside.{restored}
 use Rattle.checker.proofs.Feeding.{entry-held}
 use Rattle.stream.specs.Run.{Totals, run}
 use Rattle.pieces.proofs.RunLaid.{totalsLaid, feed-laid, run-laid}
-use Rattle.demands.specs.History.{fed, State, state, called, calledAll, EachAccepted, StopsInside}
+use Rattle.demands.specs.History.{State, state, EachAccepted, StopsInside}
 use Rattle.demands.proofs.OnLedger.{laid, fed-laid}
 
 -- what is in order is the ledger laid out that is read from it

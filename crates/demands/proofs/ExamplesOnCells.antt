@@ -2,10 +2,9 @@
 -- expected of them. And on each session and tables that are out of order every call is refused.
 use mathlib.Core.Path.{_≡_, refl, sym, ap, subst, _∙_}
 use mathlib.Core.Logic.{_⊎_, inl, inr}
-use mathlib.Core.Bool.{_&&_, and-true}
+use mathlib.Core.Bool.{and-true}
 use mathlib.Core.List.{List, [], _∷_, _++_, map, append-assoc}
 use Prim.Native.Nat.{ℕ, _+_, _*_, _≤_, _<_}
-use native.Mathlib.Nat.{mul-le-mul-left}
 use native.Mathlib.Omega.{arith}
 use lib.Dec.{T, eqb, eqb→eq}
 use lib.IntN.{ℤ}
@@ -16,31 +15,29 @@ use Rattle.ints.proofs.Bools.{T-and}
 use Rattle.ints.proofs.Lists.{all-append}
 use Rattle.rows.specs.Limits.{unknowns}
 use Rattle.rows.specs.Form.{formOf, cellsOf, legal}
-use Rattle.ledger.specs.Limits.{mostForms, mostLines, mostLiterals, mostLevels}
+use Rattle.ledger.specs.Limits.{mostForms, mostLines, mostLiterals}
 use Rattle.ledger.specs.Ledger.{Line, Ledger, fresh, literalCount, newForm, newLine, add, opened}
 use Rattle.ledger.specs.Record.{accepted, form, line}
 use Rattle.ledger.specs.Legal.{Legal}
 use Rattle.ledger.specs.Apply.{Finding, pass, fail, Outcome}
 use Rattle.ledger.specs.Bytes.{applyBytes}
-use Rattle.ledger.specs.Run.{fedAll, AllAccepted}
 use Rattle.ledger.specs.Run as ledger
 use Rattle.ledger.specs.Standing as stood
 use Rattle.ledger.specs.Examples.{Expected, refuses, makesForm, makesLine, opens, closes, Try, Example, after, replays}
 use Rattle.ledger.specs.Examples.{fedFrom, ledgerBy, hoped, refutedLine as emptyLine, printedOf, meets, holds, examples, all-hold}
 use Rattle.ledger.proofs.LegalLaws.{legal-fresh, legal-applyBytes, literals-append}
 use Rattle.ledger.proofs.ExampleLaws.{same-numbers, same-outcome, fed-same, fed-accepted}
-use Rattle.session.specs.Cells.{Tables, tables, named, excess, withExcess, ledgerOf}
-use Rattle.session.specs.Limits.{formCells, formTable, poolTable, lineTable}
+use Rattle.session.specs.Cells.{Tables, tables, excess, withExcess}
+use Rattle.session.specs.Limits.{formCells, formTable}
 use Rattle.session.specs.Effects.{written, withForm, withLine}
 use Rattle.session.specs.Calls.{entry, started, start, stands, standing}
 use Rattle.session.specs.Examples as Damaged
 use Rattle.laid.specs.Laid.{sessionOf, tablesOf}
-use Rattle.laid.specs.Result.{Result}
 use Rattle.laid.proofs.LaidParts.{legal-row, length-cells}
 use Rattle.laid.proofs.Writes.{form-table, pool-table, line-table, form-written, line-written, level-opened}
 use Rattle.checker.specs.Feed.{feed}
 use Rattle.checker.proofs.Beside.{laid-held, entry-beside}
-use Rattle.stream.specs.Run.{Totals, run}
+use Rattle.stream.specs.Run.{run}
 use Rattle.pieces.proofs.RunLaid.{legal-fed, legal-run, resultLaid, totalsLaid, ledger-read, feed-laid, run-laid}
 use Rattle.demands.specs.History.{fed, State, begun, calledAll, EachAccepted}
 use Rattle.demands.specs.Examples.{hopedCells, AllMeet, refutedLine, printed, HoldsOnCells, AllHoldOnCells, Refuses, AllJudged}

@@ -28,7 +28,7 @@ use Rattle.ledger.proofs.Restored.{withdrawal-restores as ledger-restores}
 use Rattle.ledger.proofs.RunLaws.{fed-after}
 use Rattle.ledger.proofs.StandingLaws.{standing-lowest, standing-none}
 use Rattle.session.specs.declared.state.Session.{Session}
-use Rattle.session.specs.Cells.{Tables, named, excess, originAt, literalsAt, lineAt, ledgerOf}
+use Rattle.session.specs.Cells.{Tables, named, excess, originAt, lineAt, ledgerOf}
 use Rattle.session.specs.Calls.{entry, started, start, stands, standsBy, standing}
 use Rattle.laid.specs.Laid.{sessionOf}
 use Rattle.laid.proofs.ByIndex.{getD-upTo, take-upTo, all-upTo}

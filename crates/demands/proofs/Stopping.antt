@@ -1,10 +1,10 @@
 -- A run stops at its first bad record: what it counts, what it leaves and where it ends.
 use mathlib.Core.Path.{_≡_, refl, sym, ap, subst}
 use mathlib.Core.Logic.{inl, inr}
-use mathlib.Core.List.{List, [], _∷_, map, flatten}
+use mathlib.Core.List.{List, [], _∷_, flatten}
 use Prim.Native.Nat.{ℕ, suc, _+_}
 use native.Mathlib.Omega.{arith}
-use lib.ListN.{length, take, length-append}
+use lib.ListN.{length, length-append}
 use Rattle.ledger.specs.Record.{Answer, accepted, refused, isAccepted}
 use Rattle.ledger.specs.Apply.{Finding, pass, fail}
 use Rattle.ledger.specs.Split.{recordsOf}
@@ -16,7 +16,7 @@ use Rattle.checker.specs.Feed.{feed}
 use Rattle.checker.proofs.FeedLaws.{refused-unchanged}
 use Rattle.stream.specs.Run.{Totals, totals, eachBy, runBy, run}
 use Rattle.stream.proofs.Running.{each-on, each-stops}
-use Rattle.demands.specs.History.{fed, state, calledAll, EachAccepted, Stops, Leaves}
+use Rattle.demands.specs.History.{state, calledAll, EachAccepted, Stops, Leaves}
 
 -- the same run, where k records and c bytes were counted before
 record Counted (k c : ℕ) (q r : Totals) : Type 0 where

@@ -20,7 +20,7 @@ use Rattle.ledger.proofs.InForce.{bytes-in-force}
 use Rattle.ledger.proofs.LegalLaws.{legal-fresh, legal-after-bytes}
 use Rattle.ledger.proofs.LinesTrue.{refuted-by-bytes}
 use Rattle.ledger.proofs.RunLaws.{fed-is-history, accepted-back}
-use Rattle.session.specs.Cells.{Tables, named, excess, ledgerOf}
+use Rattle.session.specs.Cells.{Tables, excess}
 use Rattle.session.specs.Calls.{entry, started, start, stands, standing}
 use Rattle.checker.specs.Feed.{feed}
 use Rattle.checker.proofs.Beside.{laid-held, excess-beside, entry-beside}

@@ -17,7 +17,6 @@ use Rattle.ledger.specs.Record.{fm, pm, RecordMark, ofRule, ruleLayout, 
 use Rattle.ledger.specs.Checks.{makes}
 use Rattle.ledger.specs.Apply.{done}
 use Rattle.ledger.specs.Bytes.{byteAt, bears, hasLetters, firstOf, formFrom, literalsBehind, fields, decodeAs, decode}
-use Rattle.ledger.specs.Standing.{refuted, standing}
 use Rattle.ledger.specs.Truth.{literalTrue, premiseLists}
 use Rattle.ledger.specs.Premises.{premisesTrue}
 use Rattle.ledger.specs.History.{afterBytes, NoWD}
@@ -25,7 +24,6 @@ use Rattle.ledger.specs.Kept.{AcceptedBytes, bytesInForce}
 use Rattle.ledger.specs.Carried.{formsCarried, listsCarried, satisfied}
 use Rattle.ledger.proofs.InForce.{accepted-done, bytes-in-force}
 use Rattle.ledger.proofs.StruckOut.{in-force-no-wd}
-use Rattle.ledger.proofs.LinesTrue.{refuted-by-bytes}
 
 flatMap-append : {A B : Type 0} (f : A → List B) (xs ys : List A) → flatMap f (xs ++ ys) ≡ flatMap f xs ++ flatMap f ys
 unfolding flatMap
@@ -173,9 +171,3 @@ premises-satisfied ρ fs (x ∷ ls) = go (eqb (x .origin) premise) (premises-sat
         → (not b || any (literalTrue ρ fs) (x .literals)) && premisesTrue ρ fs ls ≡ satisfied ρ fs (cond b (x .literals ∷ []) [] ++ premiseLists ls)
     go true e = rw e
     go false e = e
-
--- where the standing is refuted, no whole numbers satisfy the literal lists of the PM records in force over the forms of the FM records in force
-pub refuted-by-records : (n : ℕ) (h : List (List ℕ)) (i : ℕ) → standing (afterBytes n h) ≡ refuted i →
-    let bs = reverse (bytesInForce n h) in (ρ : Integers) → T (satisfied ρ (formsCarried bs) (listsCarried bs)) → ⊥
-refuted-by-records n h i e ρ t =
-    refuted-by-bytes n h i e ρ (rw (premises-satisfied ρ (afterBytes n h .forms) (afterBytes n h .lines), forms-carried n h, premises-carried n h) t)

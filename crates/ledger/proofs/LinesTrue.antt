@@ -17,7 +17,7 @@ use Rattle.rows.specs.Truth.{Integers}
 use Rattle.ledger.specs.Ledger.{Line, Mark, Ledger, noForm, noLine, New, newForm, newLine, add, opened, backTo, withdrawn}
 use Rattle.ledger.specs.Record.{Record, make, OP, WD}
 use Rattle.ledger.specs.Checks.{lineIn, makes, tests, checks, Passed}
-use Rattle.ledger.specs.Apply.{Outcome, done, apply}
+use Rattle.ledger.specs.Apply.{done, apply}
 use Rattle.ledger.specs.Bytes.{shape, decode, applyBytes}
 use Rattle.ledger.specs.History.{afterBytes}
 use Rattle.ledger.specs.Standing.{refuted, standing}
@@ -134,11 +134,6 @@ module _ (n : ℕ) (l : Ledger) (g : Good n l) where
       rw empty at (good-line-true i ρ inside (all-take (asPremise ρ (l .forms)) (suc i) (l .lines) p))
 
 module _ (n : ℕ) where
-  pub line-true-bytes : (h : List (List ℕ)) (i : ℕ) (ρ : Integers) → i < length (afterBytes n h .lines)
-      → T (premisesTrue ρ (afterBytes n h .forms) (take (suc i) (afterBytes n h .lines)))
-      → T (lineTrue ρ (afterBytes n h .forms) (getD (afterBytes n h .lines) i noLine))
-  line-true-bytes h = good-line-true n (afterBytes n h) (good-after-bytes n h)
-
   pub refuted-by-bytes : (h : List (List ℕ)) (i : ℕ) → standing (afterBytes n h) ≡ refuted i
       → (ρ : Integers) → T (premisesTrue ρ (afterBytes n h .forms) (afterBytes n h .lines)) → ⊥
   refuted-by-bytes h = good-refuted n (afterBytes n h) (good-after-bytes n h)

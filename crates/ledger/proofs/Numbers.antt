@@ -16,7 +16,7 @@ use Rattle.ledger.specs.Record.{Record, Made, accepted, refused}
 use Rattle.ledger.specs.Checks.{Check, _else_, checks}
 use Rattle.ledger.specs.Apply.{Finding, pass, fail, finding, judged, apply, done, made}
 use Rattle.ledger.specs.Bytes.{Bearing, unknown, bears, markOf, shapeOf, shape, decode, applyBytes}
-use Rattle.ledger.specs.Numbers.{shapeOrder, recordOrder, follow, Given, distinct, earlier, failsWith, FirstOf}
+use Rattle.ledger.specs.Numbers.{shapeOrder, recordOrder, follow, Given, earlier, failsWith, FirstOf}
 use Rattle.ledger.proofs.RuleLaws.{checks-follow}
 use Rattle.ledger.proofs.Findings.{passed→pass, pass-append, fail-append, finding-number, by-checks}
 
@@ -210,8 +210,13 @@ module _ (n : ℕ) (ns : List ℕ) (k : ℕ) where
           λ g. from (record { fails = g .fails; passed = rw (same-earlier e) at (g .passed) }),
         )
 
+-- no number stands twice
+distinct : List ℕ → Bool
+distinct [] = true
+distinct (n ∷ ns) = not (holds n ns) && distinct ns
+
 -- tests that follow an order in which no number stands twice give the number of the first in that order that fails
-pub first-exactly : (ns : List ℕ) (k : ℕ) → T (distinct ns) → (cs : List Check) → T (follow ns cs) → (finding cs ≡ fail k ↔ FirstOf ns k cs)
+first-exactly : (ns : List ℕ) (k : ℕ) → T (distinct ns) → (cs : List Check) → T (follow ns cs) → (finding cs ≡ fail k ↔ FirstOf ns k cs)
 unfolding finding distinct follow
 first-exactly ns k d [] t = (λ e. never (cc), λ g. absurd (g .fails))
 first-exactly [] k d (c ∷ cs) t = absurd t
@@ -269,6 +274,3 @@ module _ (n : ℕ) (l : Ledger) (b : List ℕ) where
 
   pub bytes-found : (k : ℕ) → applyBytes n l b .answer ≡ refused k ↔ finding byteTests ≡ fail k
   bytes-found k = rw by-tests (judged-number (finding byteTests) l (done l (decode b)) (made l (decode b)) k)
-
-  pub bytes-given : (k : ℕ) → applyBytes n l b .answer ≡ refused k ↔ Given k byteTests
-  bytes-given k = Iff·trans (bytes-found k) (given-exactly k byteTests)

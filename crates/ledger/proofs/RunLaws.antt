@@ -3,12 +3,11 @@
 use mathlib.Core.Path.{_≡_, refl, sym, ap, subst, _∙_}
 use mathlib.Core.Bool.{Bool, true, false, cond}
 use mathlib.Core.List.{List, [], _∷_, _++_, flatten, reverse, reverseAux}
-use mathlib.Core.Logic.{inl, inr, _↔_}
+use mathlib.Core.Logic.{inl, inr}
 use Prim.Native.Nat.{ℕ, zero, suc, _+_, _≤_, _<_}
 use native.Mathlib.Omega.{arith}
 use lib.Dec.{T}
-use lib.ListN.{length, take, drop, getD, length-append, length-drop, take-append-drop}
-use lib.Seq.{take-all}
+use lib.ListN.{length, take, drop, length-append, length-drop, take-append-drop}
 use Rattle.ledger.specs.Ledger.{Ledger, fresh}
 use Rattle.ledger.specs.Record.{Made, Answer, accepted, refused, isAccepted, layout}
 use Rattle.ledger.specs.Checks.{countIn}
@@ -166,35 +165,6 @@ stops-at-first-bad n l bs =
 -- for a stream
 pub run-stops-at-first-bad : (n : ℕ) (l : Ledger) (b : List ℕ) → Stops n l (recordsOf b) (run n l b)
 run-stops-at-first-bad n l b = stops-at-first-bad n l (recordsOf b)
-
-accepted-at : (n : ℕ) (l : Ledger) (bs : List (List ℕ)) (i : ℕ)
-    → AllAccepted n l bs → i < length bs → isAccepted (applyBytes n (fedAll n l (take i bs)) (getD bs i []) .answer)
-unfolding AllAccepted fedAll
-accepted-at n l [] i t h = absurd (omega arith)
-accepted-at n l (b ∷ bs) zero t h = t .0
-accepted-at n l (b ∷ bs) (suc i) t h = accepted-at n (applyBytes n l b .ledger) bs i (t .1) (omega arith)
-
--- the stopping number is 0 exactly where every record is accepted
-pub zero-at-end : (n : ℕ) (l : Ledger) (bs : List (List ℕ)) → runFrom n 0 0 l bs .stop ≡ 0 ↔ AllAccepted n l bs
-zero-at-end n l bs = (to-end, from-end)
-  where
-    r : Run
-    r = runFrom n 0 0 l bs
-
-    stops : Stops n l bs r
-    stops = stops-at-first-bad n l bs
-
-    to-end : r .stop ≡ 0 → AllAccepted n l bs
-    to-end z = elim (stops .end) [
-      | inl h ↦ subst (AllAccepted n l) (take-all (r .records) bs (omega arith)) (stops .good)
-      | inr h ↦ absurd (omega (arith, never-zero n (r .ledger) (getD bs (r .records) []) (h .1)))
-    ]
-
-    from-end : AllAccepted n l bs → r .stop ≡ 0
-    from-end t = elim (stops .end) [
-      | inl h ↦ h .0
-      | inr h ↦ absurd (subst isAccepted (h .1) (rw (stops .ledger) (accepted-at n l bs (r .records) t (h .0))))
-    ]
 
 -- ---- histories
 

@@ -21,7 +21,7 @@ AcceptedAfter n h b = isAccepted (applyBytes n (afterBytes n h) b .answer)
 
 -- ---- struck out
 
--- the record at position k is an OP
+-- the record at position k is an OP (bytes that bear no mark would read as one, but they are refused)
 unfoldable pub OpAt : List (List ℕ) → ℕ → Type 0
 OpAt [] k = ⊥
 OpAt (b ∷ h) k = ((k ≡ length h) × (decode b ≡ OP)) ⊎ OpAt h k

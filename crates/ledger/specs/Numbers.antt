@@ -37,10 +37,6 @@ pub record Given (k : ℕ) (cs : List Check) : Type 0 where
 
 -- ---- and by the order alone, where no number stands in it twice
 
-unfoldable pub distinct : List ℕ → Bool
-distinct [] = true
-distinct (n ∷ ns) = not (holds n ns) && distinct ns
-
 -- the numbers that come before k
 unfoldable pub earlier : ℕ → List ℕ → List ℕ
 earlier k [] = []

@@ -98,6 +98,11 @@ examples =
     ∷ short (tables (whole .forms) (take 4095 (whole .pool)) (whole .lines))
     ∷ short (tables (whole .forms) (whole .pool) (take 1023 (whole .lines)))
     ∷ fits counts (tables (whole .forms ++ (pos 7 ∷ [])) (whole .pool ++ (7 ∷ [])) (whole .lines ++ (7 ∷ [])))
+    -- counts beyond their limits
+    ∷ fails (session 257 0 0 []) (cells [] [] [])
+    ∷ fails (session 0 513 0 []) (cells [] [] [])
+    ∷ fails (session 0 0 4097 []) (cells [] [] [])
+    ∷ fails (session 0 0 0 (replicate 9 (mark 0 0 0))) (cells [] [] [])
     -- a form of no kind
     ∷ fails counts (cells (set twoForms 15 (pos 4)) literals lines)
     -- ends that fall; that rise by 33; the last is not the literal count

@@ -42,6 +42,7 @@ allLimits =
       line = longestLine;
     }
 
+-- the marks of the open levels, and then the present counts
 abbrev pub edge : Session → ℕ → Mark
 edge s i = cond (ltb i (s .«open»)) (markAt s i) (countsOf s)
 

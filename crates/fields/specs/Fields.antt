@@ -7,7 +7,7 @@ use lib.ListN.{length, take}
 use Rattle.rows.specs.Limits.{mostTerms}
 use Rattle.rows.specs.Summable.{terms}
 use Rattle.ledger.specs.Limits.{longestLine}
-use Rattle.ledger.specs.Bytes.{byteAt, literalsBehind, termsBehind}
+use Rattle.ledger.specs.Bytes.{byteAt, numbersBehind, termsBehind}
 
 -- b has at this place a count in this range, and behind it as many bytes as that needs
 pub record Listed (place width least most : ℕ) (b : List ℕ) : Type 0 where
@@ -15,10 +15,10 @@ pub record Listed (place width least most : ℕ) (b : List ℕ) : Type 0 where
   pub few : byteAt b place ≤ most
   pub long : length b ≡ place + 1 + width * byteAt b place
 
--- the cells hold so many literals, and then anything
-pub record LiteralsRead (place : ℕ) (b : List ℕ) (count : ℕ) (cells : List ℕ) : Type 0 where
+-- the cells hold so many numbers, and then anything
+pub record NumbersRead (place : ℕ) (b : List ℕ) (count : ℕ) (cells : List ℕ) : Type 0 where
   pub few : count ≤ longestLine
-  pub read : take count cells ≡ literalsBehind place b
+  pub read : take count cells ≡ numbersBehind place b
 
 -- the two lists hold so many terms, and then anything
 pub record TermsRead (place : ℕ) (b : List ℕ) (k : ℕ) (forms : List ℕ) (multipliers : List ℤ) : Type 0 where

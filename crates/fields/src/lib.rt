@@ -7,7 +7,7 @@ ghost use Rattle.ledger.specs.Record.{fm, ruleLayout};
 ghost use Rattle.ledger.specs.Bytes.{formFrom};
 ghost use Rattle.rows.specs.Limits.{mostTerms};
 ghost use Rattle.rows.specs.Form.{cellsOf};
-ghost use Rattle.fields.specs.Fields.{Listed, LiteralsRead, TermsRead};
+ghost use Rattle.fields.specs.Fields.{Listed, NumbersRead, TermsRead};
 use session::state::Session;
 
 pub mod numbers;
@@ -26,10 +26,10 @@ pub fn read_form(cells: &mut [i32], bytes: &[u8])
     }
 }
 
-// The literals behind the count at this place, to the front of cells; and how many they are.
-pub fn read_literals(cells: &mut [u16], bytes: &[u8], place: usize) -> usize
+// The numbers behind the count at this place, to the front of cells; and how many they are.
+pub fn read_numbers(cells: &mut [u16], bytes: &[u8], place: usize) -> usize
     requires { ⌜ (length (now cells) ≡ longestLine) × Listed place 2 0 longestLine (now bytes) ⌝ }
-    ensures { λ r. ⌜ LiteralsRead place (now (bytes .entry)) r (now (cells .exit)) ⌝ }
+    ensures { λ r. ⌜ NumbersRead place (now (bytes .entry)) r (now (cells .exit)) ⌝ }
 {
     let count = bytes[place] as usize;
     let from = place + 1;

@@ -16,7 +16,7 @@ use Rattle.ledger.specs.Record.{Record, make, OP, WD}
 use Rattle.ledger.specs.Record.{fm, pm, RecordMark, ofRule, ruleLayout, marks}
 use Rattle.ledger.specs.Checks.{makes}
 use Rattle.ledger.specs.Apply.{done}
-use Rattle.ledger.specs.Bytes.{byteAt, bears, hasLetters, firstOf, formFrom, literalsBehind, fields, decodeAs, decode}
+use Rattle.ledger.specs.Bytes.{byteAt, bears, hasLetters, firstOf, formFrom, numbersBehind, fields, decodeAs, decode}
 use Rattle.ledger.specs.Truth.{literalTrue, premiseLists}
 use Rattle.ledger.specs.Premises.{premisesTrue}
 use Rattle.ledger.specs.History.{afterBytes, NoWD}
@@ -90,13 +90,13 @@ letters-apart b f p =
     let no = eqb→eq (byteAt b 0) 80 (T-and (eqb (byteAt b 0) 80) _ p .0) in
     omega arith
 
-list-says : (ls : List Line) (b : List ℕ) → carriedBy listIn ls (decode b) ≡ cond (hasLetters b (ofRule pm)) (literalsBehind (ruleLayout pm .place) b ∷ []) []
+list-says : (ls : List Line) (b : List ℕ) → carriedBy listIn ls (decode b) ≡ cond (hasLetters b (ofRule pm)) (numbersBehind (ruleLayout pm .place) b ∷ []) []
 unfolding decode carriedBy listIn makes premiseLists flatMap
 list-says ls b = go (hasLetters b (ofRule fm)) refl (hasLetters b (ofRule pm)) refl (first-bare listIn ls b (drop 2 marks) tt)
   where
     go : (h : Bool) → hasLetters b (ofRule fm) ≡ h → (k : Bool) → hasLetters b (ofRule pm) ≡ k → carriedBy listIn ls (decodeAs b (firstOf b (drop 2 marks))) ≡ []
         → carriedBy listIn ls (decodeAs b (cond h (bears (ofRule fm)) (cond k (bears (ofRule pm)) (firstOf b (drop 2 marks)))))
-        ≡ cond k (literalsBehind (ruleLayout pm .place) b ∷ []) []
+        ≡ cond k (numbersBehind (ruleLayout pm .place) b ∷ []) []
     go true e true g r = absurd (letters-apart b (subst T (sym e) tt) (subst T (sym g) tt))
     go true e false g r = refl
     go false e true g r = refl

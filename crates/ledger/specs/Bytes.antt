@@ -73,9 +73,9 @@ shape b = (leb 2 (length b) else 3) ∷ shapeOf b (markOf b)
 abbrev pub formFrom : List ℕ → Form
 formFrom b = record { kind = pos (byteAt b 2); divisor = pos (u16At b 3); row = upTo (carried + 1) (λ i. i32At b (5 + 4 * i)) }
 
--- as many literals as the count at place p says, from right behind it on
-abbrev pub literalsBehind : ℕ → List ℕ → List ℕ
-literalsBehind p b = upTo (byteAt b p) (λ i. u16At b (p + 1 + 2 * i))
+-- as many numbers as the count at place p says, from right behind it on
+abbrev pub numbersBehind : ℕ → List ℕ → List ℕ
+numbersBehind p b = upTo (byteAt b p) (λ i. u16At b (p + 1 + 2 * i))
 
 -- and terms
 abbrev pub termsBehind : ℕ → List ℕ → List Term
@@ -83,7 +83,7 @@ termsBehind p b = upTo (byteAt b p) (λ i. record { form = u16At b (p + 1 + 6 * 
 
 abbrev pub ruleFrom : List ℕ → RuleMark → Rule
 ruleFrom b fm = FM (formFrom b)
-ruleFrom b pm = PM (literalsBehind (ruleLayout pm .place) b)
+ruleFrom b pm = PM (numbersBehind (ruleLayout pm .place) b)
 ruleFrom b rs = RS (u16At b 2) (u16At b 4) (u16At b 6)
 ruleFrom b fk = FK (termsBehind (ruleLayout fk .place) b)
 ruleFrom b to = TO (u16At b 2) (u16At b 4)

@@ -6,7 +6,7 @@ use Rattle.ints.specs.Tests.{all, any}
 use Rattle.rows.specs.Form.{Form}
 use Rattle.rows.specs.Truth.{Integers}
 use Rattle.ledger.specs.Record.{fm, pm, ofRule, ruleLayout}
-use Rattle.ledger.specs.Bytes.{hasLetters, formFrom, literalsBehind}
+use Rattle.ledger.specs.Bytes.{hasLetters, formFrom, numbersBehind}
 use Rattle.ledger.specs.Truth.{literalTrue}
 
 -- the forms of the FM records, in their order
@@ -15,7 +15,7 @@ formsCarried bs = flatMap (λ b. cond (hasLetters b (ofRule fm)) (formFrom b ∷
 
 -- the literal lists of the PM records, in their order
 unfoldable pub listsCarried : List (List ℕ) → List (List ℕ)
-listsCarried bs = flatMap (λ b. cond (hasLetters b (ofRule pm)) (literalsBehind (ruleLayout pm .place) b ∷ []) []) bs
+listsCarried bs = flatMap (λ b. cond (hasLetters b (ofRule pm)) (numbersBehind (ruleLayout pm .place) b ∷ []) []) bs
 
 -- in each list a literal is true, over these forms
 abbrev pub satisfied : Integers → List Form → List (List ℕ) → Bool

@@ -1,5 +1,5 @@
-// Ascending lists of literals in slices: joined, tested, gathered without one of them, and negated. Nothing here knows of sessions or tables.
+// Lists of literals in slices: joined, tested, gathered without one of them, and written for forms. Nothing here knows of sessions or tables.
 pub mod gather;
 pub mod join;
-pub mod negate;
 pub mod tests;
+pub mod write;

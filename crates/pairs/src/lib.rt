@@ -1,53 +1,21 @@
 // The rules on two or three forms: TO, TR, EQ, TI and WK. Each reads its fields, tests that the forms are in force and of their kinds, and
 // then its own condition on rows.
 ghost use mathlib.Core.Path.{_≡_};
-ghost use mathlib.Core.List.{_∷_, []};
 ghost use lib.ListN.{length};
 ghost use Rattle.rows.specs.Limits.{unknowns};
 ghost use Rattle.ledger.specs.Record.{TO, TR, EQ, TI, WK, to, tr, eq, ti, wk, ruleLayout};
-ghost use Rattle.ledger.specs.Checks.{_else_, bothAre};
-ghost use Rattle.ledger.specs.Apply.{finding};
 ghost use Rattle.ledger.specs.Bytes.{u16At, i32At};
-ghost use Rattle.session.specs.Answers.{findingOf};
 ghost use Rattle.proposals.specs.Proposing.{Scratch};
-ghost use Rattle.rules.specs.Read.{FormsHeld, formsIn, Judged, ProposesRule};
+ghost use Rattle.rules.specs.Read.{FormsHeld, Judged, ProposesRule};
 use fields::numbers::i32_at;
 use fields::numbers::u16_at;
 use proposals::Proposal;
 use proposals::derived::three;
 use proposals::derived::two;
+use rules::forms::both_are;
+use rules::forms::holds;
 use session::answers::Refusal;
 use session::answers::Verdict;
-
-// Whether both forms are in force, and each is of its kind.
-fn both_are(count: u16, forms: &[i32], j: i32, a: u16, k: i32, b: u16) -> Verdict
-    requires { ⌜ FormsHeld unknowns count (now forms) ⌝ }
-    ensures { λ r. ⌜ findingOf r ≡ finding (bothAre (formsIn unknowns count (now (forms .entry))) j a k b) ⌝ }
-{
-    if count <= a {
-        return Verdict::Fail(Refusal::NotInForce);
-    }
-    if count <= b {
-        return Verdict::Fail(Refusal::NotInForce);
-    }
-    if contents::cells::kind(forms, a) != j {
-        return Verdict::Fail(Refusal::NotAllowed);
-    }
-    if contents::cells::kind(forms, b) != k {
-        return Verdict::Fail(Refusal::NotAllowed);
-    }
-    Verdict::Pass
-}
-
-// What a condition on rows finds.
-fn holds(condition: bool) -> Verdict
-    ensures { λ r. ⌜ findingOf r ≡ finding ((condition else 11) ∷ []) ⌝ }
-{
-    if condition {
-        return Verdict::Pass;
-    }
-    Verdict::Fail(Refusal::ConditionFails)
-}
 
 pub fn totality(
     count: u16,

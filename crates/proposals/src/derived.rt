@@ -47,7 +47,7 @@ pub fn all_negated(v: Verdict, picks: &[u16], second: &mut [u16]) -> Proposal
     if let Verdict::Fail(why) = v {
         return Proposal::Refused(why);
     }
-    literals::negate::negate_into(second, picks);
+    literals::write::write_literals(second, picks, 1);
     let count = picks.len();
     Proposal::Line(NewLine::derived(0, count))
 }

@@ -21,6 +21,10 @@ rowAt n table f = formAt n table f .row
 pub record Inside (n : ℕ) (table : List ℤ) (f : ℕ) : Type 0 where
   pub inside : (n + 3) * f + (n + 3) ≤ length table
 
+-- it has every picked form
+pub record Picked (n : ℕ) (table : List ℤ) (picks : List ℕ) : Type 0 where
+  pub inside : (i : ℕ) → i < length picks → Inside n table (getD picks i 0)
+
 -- the first form with the first multiplier, and so on
 abbrev pub terms : List ℕ → List ℤ → List Term
 terms [] ms = []

@@ -1,15 +1,18 @@
 -- What a judging function knows of forms and lines that are held: those that it reads are those of the ledger.
 use mathlib.Core.Path.{_≡_, ap}
+use mathlib.Core.Bool.{Bool, true}
 use mathlib.Core.List.{List, []}
 use Prim.Native.Nat.{ℕ, suc, _+_, _≤_, _<_}
 use native.Mathlib.Nat.{mul-le-mul-left}
 use native.Mathlib.Omega.{arith}
-use lib.Dec.{T}
+use lib.Dec.{T, ltb, ltb→lt}
 use lib.IntN.{ℤ}
-use lib.ListN.{length, length-take}
-use Rattle.ints.proofs.Lists.{length-upTo}
+use lib.ListN.{length, getD, length-take}
+use Rattle.ints.specs.Tests.{all}
+use Rattle.ints.proofs.Bools.{true→T}
+use Rattle.ints.proofs.Lists.{all-at, length-upTo}
 use Rattle.rows.specs.Form.{formAt, legal}
-use Rattle.rows.specs.Summable.{Inside}
+use Rattle.rows.specs.Summable.{Inside, Picked}
 use Rattle.ledger.specs.Limits.{mostForms, longestLine}
 use Rattle.ledger.specs.Ledger.{Line, noForm, noLine, nthForm, nthLine}
 use Rattle.ledger.specs.Record.{Rule}
@@ -39,6 +42,14 @@ module _ {n many : ℕ} {cells : List ℤ} (h : FormsHeld n many cells) where
   form-inside f i =
       let few : suc f ≤ mostForms = omega (arith, h .few) in
       record { inside = omega (arith, mul-le-mul-left (n + 3) few, h .size) }
+
+-- every picked form is in force
+abbrev pub inForce : ℕ → List ℕ → Bool
+inForce many ps = all (λ f. ltb f many) ps
+
+pub picked : {n many : ℕ} {cells : List ℤ} → FormsHeld n many cells → (ps : List ℕ) → inForce many ps ≡ true → Picked n cells ps
+picked {many = many} h ps k =
+    record { inside = λ i l. form-inside h (getD ps i 0) (ltb→lt _ _ (all-at (λ f. ltb f many) ps i 0 (true→T k) l)) }
 
 -- ---- lines
 

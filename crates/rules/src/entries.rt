@@ -8,7 +8,7 @@ ghost use Rattle.ledger.specs.Limits.{longestLine};
 ghost use Rattle.ledger.specs.Record.{FM, PM, fm, ruleLayout, behindLetters};
 ghost use Rattle.ledger.specs.Checks.{tests};
 ghost use Rattle.ledger.specs.Apply.{finding};
-ghost use Rattle.ledger.specs.Bytes.{formFrom, literalsBehind};
+ghost use Rattle.ledger.specs.Bytes.{formFrom, numbersBehind};
 ghost use Rattle.session.specs.Answers.{findingOf};
 ghost use Rattle.session.specs.Limits.{formCells};
 ghost use Rattle.fields.specs.Fields.{Listed};
@@ -44,9 +44,9 @@ fn judge_premise(count: u16, literals: &[u16]) -> Verdict
 
 pub fn premise(count: u16, bytes: &[u8], second: &mut [u16]) -> Proposal
     requires { ⌜ Listed behindLetters 2 0 longestLine (now bytes) × (length (now second) ≡ longestLine) ⌝ }
-    ensures { λ r. ⌜ ProposesPremise unknowns count (PM (literalsBehind behindLetters (now (bytes .entry)))) r (now (second .exit)) ⌝ }
+    ensures { λ r. ⌜ ProposesPremise unknowns count (PM (numbersBehind behindLetters (now (bytes .entry)))) r (now (second .exit)) ⌝ }
 {
-    let n = fields::read_literals(second, bytes, BEHIND_LETTERS);
+    let n = fields::read_numbers(second, bytes, BEHIND_LETTERS);
     let v = judge_premise(count, &second[0..n]);
     if let Verdict::Fail(why) = v {
         return Proposal::Refused(why);

@@ -19,15 +19,12 @@ use Rattle.ledger.specs.Ledger.{nthForm, nthRow}
 use Rattle.ledger.specs.Checks.{Check, _else_, formIn, formsOf, divisorIs, firstDivisor}
 use Rattle.ledger.specs.Apply.{Finding, fail, finding}
 use Rattle.rules.specs.Read.{FormsHeld, formsIn}
-use Rattle.terms.specs.Picks.{Picked, Paired, allowed}
+use Rattle.terms.specs.Picks.{Paired, allowed}
 use Rattle.ints.proofs.Lists.{all-and}
 use Rattle.terms.proofs.TermParts.{forms-terms, first-divisor, sum-agrees, legal-small, legal-numbers}
-use Rattle.rules.proofs.HeldLaws.{form-count, form-is, form-legal, form-inside}
+use Rattle.rules.proofs.HeldLaws.{form-count, form-is, form-legal, form-inside, inForce}
 
 -- ---- the shared tests, by the cells
-
-abbrev pub inForce : ℕ → List ℕ → Bool
-inForce many ps = all (λ f. ltb f many) ps
 
 -- a kind of this range, and a multiplier that it allows
 abbrev pub termAllowed : ℕ → List ℤ → ℤ → ℤ → Term → Bool
@@ -121,10 +118,6 @@ module _ {n many : ℕ} {cells : List ℤ} (h : FormsHeld n many cells) {ps : Li
       ∙ ap (all (hasDivisor n cells d)) (forms-terms ps ms (p .paired))
 
   -- ---- what passes may be summed
-
-  pub picked : inForce many ps ≡ true → Picked n cells ps
-  picked k =
-      record { inside = λ i l. form-inside h (getD ps i 0) (ltb→lt _ _ (all-at (λ f. ltb f many) ps i 0 (true→T k) l)) }
 
   term-summand : (low high : ℤ) (u : Term) → T (in-force u && termAllowed n cells low high u) → T (summand n cells u)
   term-summand low high u k =

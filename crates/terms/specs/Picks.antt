@@ -2,17 +2,12 @@
 use mathlib.Core.Path.{_≡_}
 use mathlib.Core.Bool.{Bool, _&&_}
 use mathlib.Core.List.{List}
-use Prim.Native.Nat.{ℕ, _≤_, _<_}
+use Prim.Native.Nat.{ℕ, _≤_}
 use lib.IntN.{ℤ}
-use lib.ListN.{length, getD}
+use lib.ListN.{length}
 use Rattle.ints.specs.Tests.{between}
 use Rattle.rows.specs.Limits.{mostTerms}
-use Rattle.rows.specs.Summable.{Inside}
 use Rattle.rows.specs.Form.{legalMultiplier}
-
--- every picked form lies in the table
-pub record Picked (n : ℕ) (forms : List ℤ) (picks : List ℕ) : Type 0 where
-  pub inside : (i : ℕ) → i < length picks → Inside n forms (getD picks i 0)
 
 -- a multiplier for each, and as many as a sum may have
 pub record Paired (picks : List ℕ) (multipliers : List ℤ) : Type 0 where

@@ -1,17 +1,16 @@
 // The rules on sums: FK and CL. Both read their terms, test forms, kinds and multipliers, and then what the sum reaches.
 ghost use mathlib.Core.Path.{_≡_};
-ghost use Rattle.ints.specs.Tests.{eqZ, all};
+ghost use Rattle.ints.specs.Tests.{all};
 ghost use lib.ListN.{length};
 ghost use Rattle.rows.specs.Limits.{unknowns, mostTerms};
 ghost use Rattle.rows.specs.Form.{formAt};
-ghost use Rattle.rows.specs.Summable.{Inside};
-ghost use Rattle.rows.specs.Summable.{terms};
+ghost use Rattle.rows.specs.Summable.{Inside, Picked, terms};
 ghost use Rattle.ledger.specs.Record.{FK, CL, behindLetters};
 ghost use Rattle.ledger.specs.Bytes.{termsBehind};
 ghost use Rattle.fields.specs.Fields.{Listed};
 ghost use Rattle.proposals.specs.Proposing.{Scratch};
 ghost use Rattle.rules.specs.Read.{FormsHeld, Judged, ProposesSum};
-ghost use Rattle.terms.specs.Picks.{Picked, Paired, allowed};
+ghost use Rattle.terms.specs.Picks.{Paired, allowed};
 use fields::read_terms;
 use proposals::Proposal;
 use proposals::derived::all_negated;
@@ -42,23 +41,6 @@ fn terms_allowed(forms: &[i32], picks: &[u16], multipliers: &[i32], low: i32, hi
         let f = picks[i];
         let m = multipliers[i];
         if !term_allowed(forms, f, m, low, high) {
-            return false;
-        }
-        i += 1;
-    }
-    true
-}
-
-// Whether every picked form has this divisor.
-fn divisors_are(forms: &[i32], picks: &[u16], divisor: i32) -> bool
-    requires { ⌜ Picked unknowns (now forms) (now picks) ⌝ }
-    ensures { λ r. ⌜ r ≡ all (λ f. eqZ (formAt unknowns (now (forms .entry)) f .divisor) divisor) (now (picks .entry)) ⌝ }
-{
-    let mut i: usize = 0;
-    while i < picks.len() {
-        let f = picks[i];
-        let d = contents::cells::divisor(forms, f);
-        if d != divisor {
             return false;
         }
         i += 1;
@@ -111,7 +93,7 @@ fn judge_clash(count: u16, forms: &[i32], picks: &[u16], multipliers: &[i32]) ->
         return Verdict::Fail(Refusal::NotAllowed);
     }
     let d = contents::cells::divisor(forms, picks[0]);
-    if !divisors_are(forms, picks, d) {
+    if !conditions::picked::divisors_are(forms, picks, d) {
         return Verdict::Fail(Refusal::NotAllowed);
     }
     match sums::combine(forms, picks, multipliers, d) {

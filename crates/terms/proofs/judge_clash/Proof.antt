@@ -26,10 +26,10 @@ use Rattle.ledger.specs.Checks.{Check, _else_, tests}
 use Rattle.ledger.specs.Apply.{Finding, finding}
 use Rattle.rules.specs.Read.{FormsHeld}
 use Rattle.terms.specs.Picks.{Paired}
-use Rattle.rules.proofs.HeldLaws.{Finds}
+use Rattle.rules.proofs.HeldLaws.{Finds, inForce, picked}
 use Rattle.terms.proofs.TermParts.{divided}
 use Rattle.rules.proofs.FindingWalk.{Left, whole, past, fails, passes}
-use Rattle.terms.proofs.TermTests.{shared, shared-read, sum-read, modulus-read, divisors-read, inForce, termAllowed, modulus, hasDivisor, picked, summable}
+use Rattle.terms.proofs.TermTests.{shared, shared-read, sum-read, modulus-read, divisors-read, termAllowed, modulus, hasDivisor, summable}
 use Rattle.terms.proofs.judge_clash.Statement.{statement}
 use Rattle.terms.proofs.judge_clash.Tie as tie
 
@@ -78,7 +78,7 @@ terms-allowed-requires : tie.Need-terms-allowed-requires
 terms-allowed-requires c κs =
     let e = c .before .before in
     let p = e .before .before .before .pre in
-    (picked (p .0) (p .1) (forms-in e), p .1)
+    (picked (p .0) _ (forms-in e), p .1)
 
 returns-3 : tie.Need-returns-3
 returns-3 c =
@@ -113,13 +113,13 @@ divisor-requires : tie.Need-divisor-requires
 divisor-requires c κs =
     let e = c .before in
     let p = start e .pre in
-    picked (p .0) (p .1) (forms-in (e .before .before .before .before)) .inside 0 (p .1 .some)
+    picked (p .0) (start e .args .picks .now) (forms-in (e .before .before .before .before)) .inside 0 (p .1 .some)
 
 divisors-are-requires : tie.Need-divisors-are-requires
 divisors-are-requires c κs =
     let e = c .before .before in
     let p = start e .pre in
-    picked (p .0) (p .1) (forms-in (e .before .before .before .before))
+    picked (p .0) _ (forms-in (e .before .before .before .before))
 
 -- the divisor of the first form, from its bits
 abbrev first : tie.Else3 → ℤ

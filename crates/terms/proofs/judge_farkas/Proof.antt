@@ -26,10 +26,10 @@ use Rattle.ledger.specs.Checks.{Check, _else_, tests}
 use Rattle.ledger.specs.Apply.{Finding, finding}
 use Rattle.rules.specs.Read.{FormsHeld}
 use Rattle.terms.specs.Picks.{Paired}
-use Rattle.rules.proofs.HeldLaws.{Finds}
+use Rattle.rules.proofs.HeldLaws.{Finds, inForce, picked}
 use Rattle.terms.proofs.TermParts.{at-most-or-zero}
 use Rattle.rules.proofs.FindingWalk.{Left, whole, past, fails, passes}
-use Rattle.terms.proofs.TermTests.{shared, shared-read, sum-read, inForce, termAllowed, picked, summable}
+use Rattle.terms.proofs.TermTests.{shared, shared-read, sum-read, termAllowed, summable}
 use Rattle.terms.proofs.judge_farkas.Statement.{statement}
 use Rattle.terms.proofs.judge_farkas.Tie as tie
 
@@ -75,7 +75,7 @@ terms-allowed-requires : tie.Need-terms-allowed-requires
 terms-allowed-requires c κs =
     let e = c .before .before in
     let p = e .before .before .before .pre in
-    (picked (p .0) (p .1) (forms-in e), p .1)
+    (picked (p .0) _ (forms-in e), p .1)
 
 returns-3 : tie.Need-returns-3
 returns-3 c =

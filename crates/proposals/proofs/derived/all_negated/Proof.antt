@@ -16,8 +16,8 @@ returns c = λ xs. refused-by _ xs _ (c .before .v .given .1)
 enum-told : tie.Need-enum-told
 enum-told c = search needs
 
-negate-into-requires : tie.Need-negate-into-requires
-negate-into-requires c κs = (c .before .before .before .before .before .pre .0 (ap findingOf (c .before .enum-told .given .1)), omega (arith, c .before .before .before .before .before .pre .1, c .before .before .before .before .before .pre .2))
+write-literals-requires : tie.Need-write-literals-requires
+write-literals-requires c κs = (c .before .before .before .before .before .pre .0 (ap findingOf (c .before .enum-told .given .1)), omega (arith, c .before .before .before .before .before .pre .1, c .before .before .before .before .before .pre .2), omega arith)
 
 derived-requires : tie.Need-derived-requires
 derived-requires c κs = search needs
@@ -26,7 +26,7 @@ same-length : tie.Need-same-length
 same-length c = search needs
 
 returns-2 : tie.Need-returns-2
-returns-2 c = λ xs. rw (c .derived .ensures) (negated-made (now (c .before .before .before .before .before .before .before .before .before .args .picks)) xs _ (c .before .before .before .before .before .enum-told .given .1) (omega (arith, c .before .before .before .before .before .before .before .before .before .pre .1, c .before .before .before .before .before .before .before .before .before .pre .2)) (c .before .before .before .negate-into .ensures))
+returns-2 c = λ xs. rw (c .derived .ensures) (negated-made (now (c .before .before .before .before .before .before .before .before .before .args .picks)) xs _ (c .before .before .before .before .before .enum-told .given .1) (omega (arith, c .before .before .before .before .before .before .before .before .before .pre .1, c .before .before .before .before .before .before .before .before .before .pre .2)) (c .before .before .before .write-literals .ensures))
 
 pub all-negated-spec : {M : Type 1} → statement M
 all-negated-spec =
@@ -35,7 +35,7 @@ all-negated-spec =
     enum-known-v
     returns
     enum-told
-    negate-into-requires
+    write-literals-requires
     derived-requires
     same-length
     returns-2)

@@ -6,8 +6,8 @@ use borrow.Author.Needs.{needs}
 use Rattle.rules.proofs.entries.premise.Statement.{statement}
 use Rattle.rules.proofs.entries.premise.Tie as tie
 
-read-literals-requires : tie.Need-read-literals-requires
-read-literals-requires c κs = search needs
+read-numbers-requires : tie.Need-read-numbers-requires
+read-numbers-requires c κs = search needs
 
 sub-judge-premise : tie.Need-sub-judge-premise
 sub-judge-premise c = search needs
@@ -28,7 +28,7 @@ same-length : tie.Need-same-length
 same-length c = search needs
 
 returns : tie.Need-returns
-returns c = λ fs ls cells xs e. rw (← c .before .before .before .before .before .before .before .before .read-literals .ensures .read) (premise-refused unknowns fs ls cells xs _ _ (c .before .v .given .1) (simp sub-zero at (c .before .before .before .judge-premise .ensures fs e)))
+returns c = λ fs ls cells xs e. rw (← c .before .before .before .before .before .before .before .before .read-numbers .ensures .read) (premise-refused unknowns fs ls cells xs _ _ (c .before .v .given .1) (simp sub-zero at (c .before .before .before .judge-premise .ensures fs e)))
 
 enum-told : tie.Need-enum-told
 enum-told c = search needs
@@ -40,13 +40,13 @@ same-length-2 : tie.Need-same-length-2
 same-length-2 c = search needs
 
 returns-2 : tie.Need-returns-2
-returns-2 c = λ fs ls cells xs e. rw (c .premise .ensures, ← c .before .before .before .before .before .before .before .before .read-literals .ensures .read) (premise-made unknowns fs ls cells xs _ (c .before .before .before .before .before .before .before .before .read-literals .result) (c .before .enum-told .given .1) (omega (arith, c .before .before .before .before .before .before .before .before .read-literals .ensures .few, c .before .before .before .before .before .before .before .before .before .before .before .before .pre .1)) (simp sub-zero at (c .before .before .before .judge-premise .ensures fs e)))
+returns-2 c = λ fs ls cells xs e. rw (c .premise .ensures, ← c .before .before .before .before .before .before .before .before .read-numbers .ensures .read) (premise-made unknowns fs ls cells xs _ (c .before .before .before .before .before .before .before .before .read-numbers .result) (c .before .enum-told .given .1) (omega (arith, c .before .before .before .before .before .before .before .before .read-numbers .ensures .few, c .before .before .before .before .before .before .before .before .before .before .before .before .pre .1)) (simp sub-zero at (c .before .before .before .judge-premise .ensures fs e)))
 
 pub premise-spec : {M : Type 1} → statement M
 premise-spec =
     tie.close
     (tie.spec
-    read-literals-requires
+    read-numbers-requires
     sub-judge-premise
     part-judge-premise-start
     part-judge-premise-end

@@ -1,6 +1,6 @@
 use Rattle.ledger.specs.Apply.{finding}
-use Rattle.pairs.proofs.holds.Statement.{statement}
-use Rattle.pairs.proofs.holds.Tie as tie
+use Rattle.rules.proofs.forms.holds.Statement.{statement}
+use Rattle.rules.proofs.forms.holds.Tie as tie
 
 returns : tie.Need-returns
 unfolding finding

@@ -6,8 +6,8 @@ use borrow.Author.Needs.{needs}
 use native.Mathlib.Omega.{arith}
 use Prim.Native.Nat.{_≤_, _+_, _*_, _-_}
 use mathlib.Core.Path.{_≡_}
-use Rattle.fields.proofs.read_literals.Statement.{statement}
-use Rattle.fields.proofs.read_literals.Tie as tie
+use Rattle.fields.proofs.read_numbers.Statement.{statement}
+use Rattle.fields.proofs.read_numbers.Tie as tie
 
 abbrev Inv-loop : tie.InvT-loop
 Inv-loop cells₀ bytes place count from i₀ cells i = (i ≤ count) × (count ≤ longestLine) × Filled longestLine (λ k. u16At bytes (from + 2 * k)) cells i
@@ -57,8 +57,8 @@ same-length c = search needs
 returns : tie.Need-returns Inv-loop μ-loop
 returns c = let (low, few, filled) = c .before .loop .inv in let e : c .before .loop .i ≡ byteAt (now (c .before .before .before .before .before .args .bytes)) (c .before .before .before .before .before .args .place) = omega arith in record { few = few; read = rw e at (filled .read) }
 
-pub read-literals-spec : {M : Type 1} → statement M
-read-literals-spec =
+pub read-numbers-spec : {M : Type 1} → statement M
+read-numbers-spec =
     tie.close
     (tie.spec
     Inv-loop

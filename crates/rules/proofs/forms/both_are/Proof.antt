@@ -1,10 +1,10 @@
 use native.Mathlib.Omega.{arith}
 use borrow.Author.Needs.{sfits-of}
 use Rattle.rules.proofs.HeldLaws.{form-inside}
 use Rattle.rules.proofs.FindingWalk.{whole, past, fails, passes}
 use Rattle.rules.proofs.FormTests.{KindRead, in-force, not-in-force, kind-is, kind-not}
-use Rattle.pairs.proofs.both_are.Statement.{statement}
-use Rattle.pairs.proofs.both_are.Tie as tie
+use Rattle.rules.proofs.forms.both_are.Statement.{statement}
+use Rattle.rules.proofs.forms.both_are.Tie as tie
 
 returns : tie.Need-returns
 returns c = fails whole (not-in-force (c .before .pre) (c .before .args .a) (c .if1 .taken))

@@ -32,6 +32,10 @@ module _ {A : Type 0} where
   all-at p (x ∷ xs) zero d t h = T-and (p x) (all p xs) t .0
   all-at p (x ∷ xs) (suc i) d t h = all-at p xs i d (T-and (p x) (all p xs) t .1) (omega arith)
 
+  pub all-from : (p : A → Bool) (xs : List A) (d : A) → ((i : ℕ) → i < length xs → T (p (getD xs i d))) → T (all p xs)
+  all-from p [] d f = tt
+  all-from p (x ∷ xs) d f = and-T (p x) (all p xs) (f 0 (omega arith)) (all-from p xs d (λ i l. f (suc i) (omega arith)))
+
   pub all-implies : (p q : A → Bool) → ((x : A) → T (p x) → T (q x)) → (xs : List A) → T (all p xs) → T (all q xs)
   all-implies p q f [] t = tt
   all-implies p q f (x ∷ xs) t = let h = T-and (p x) (all p xs) t in and-T (q x) (all q xs) (f x (h .0)) (all-implies p q f xs (h .1))

@@ -10,7 +10,7 @@ use lib.Dec.{T, eqb→eq, eqb-refl}
 use lib.IntN.{ℤ, pos, negsuc, _*ℤ_}
 use lib.Signed.{leZ, ltZ, _≤ℤ_, _<ℤ_, leZ-yes, ltZ-yes, ltZ-no}
 use Rattle.ints.specs.Tests.{eqZ, eqZs, between}
-use Rattle.ints.proofs.Bools.{T-and, T→true, T→false, true→T, false→T}
+use Rattle.ints.proofs.Bools.{T-and, and-T, T→true, T→false, true→T, false→T}
 use Rattle.ints.proofs.Parts.{up, down, up-mul, down-mul, parts→eq, le→parts, parts→le, ints}
 
 pub total : (a b : ℤ) → (a ≤ℤ b) ⊎ (b <ℤ a)
@@ -52,6 +52,10 @@ eqZs→eq [] (y ∷ ys) t = absurd t
 eqZs→eq (x ∷ xs) [] t = absurd t
 eqZs→eq (x ∷ xs) (y ∷ ys) t =
     let h = T-and (eqZ x y) (eqZs xs ys) t in rw (eqZ→eq x y (h .0), eqZs→eq xs ys (h .1))
+
+pub eqZs-refl : (xs : List ℤ) → T (eqZs xs xs)
+eqZs-refl [] = tt
+eqZs-refl (x ∷ xs) = and-T (eqZ x x) (eqZs xs xs) (eqZ-refl x) (eqZs-refl xs)
 
 pub lt→not-le : (a b : ℤ) → ltZ a b ≡ true → leZ b a ≡ false
 lt→not-le a b e =

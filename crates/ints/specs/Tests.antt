@@ -1,5 +1,5 @@
 -- Tests of whole numbers and of lists, each a Bool that can be computed, of which every test of the checker is made; and lists by index.
-use mathlib.Core.Bool.{Bool, true, false, _&&_, _||_}
+use mathlib.Core.Bool.{Bool, true, false, not, _&&_, _||_}
 use mathlib.Core.List.{List, [], _∷_, _++_}
 use Prim.Native.Nat.{ℕ, zero, suc, _%_}
 use lib.Dec.{eqb}
@@ -39,3 +39,8 @@ module _ {A : Type 0} where
   unfoldable pub upTo : ℕ → (ℕ → A) → List A
   upTo zero f = []
   upTo (suc n) f = upTo n f ++ (f n ∷ [])
+
+-- no two are the same
+abbrev pub different : List ℕ → Bool
+different [] = true
+different (x ∷ xs) = all (λ y. not (eqb x y)) xs && different xs

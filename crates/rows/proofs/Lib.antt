@@ -5,3 +5,4 @@ pub mod SumLaws
 pub mod Value
 pub mod Reaching
 pub mod Sound
+pub mod Remainders

@@ -12,7 +12,8 @@ use Rattle.ints.proofs.Bools.{T-and, T-or, or-left, or-right, implies}
 use Rattle.ints.proofs.Lists.{all-or-any}
 use Rattle.ints.proofs.Parts.{add-parts, sub-parts, ints}
 use Rattle.ints.proofs.Order.{total, mul-mono, mul-cancel, eqZ→eq, eqZs→eq, between→le}
-use Rattle.ints.proofs.Divides.{Multiple, divides→multiple, multiple→divides, multiple-zero, multiple-add, multiple-mul, multiple-neg}
+use Rattle.ints.specs.Multiples.{Multiple}
+use Rattle.ints.proofs.Divides.{divides→multiple, multiple→divides, multiple-zero, multiple-add, multiple-mul, multiple-neg}
 use Rattle.ints.proofs.Floor.{tighten, rounded-once}
 use Rattle.rows.specs.Limits.{largestMultiplier}
 use Rattle.rows.specs.Row.{Row, constant, coefficients, scaled, minus, oneMinus, oneMore}
@@ -38,7 +39,7 @@ module _ (ρ : Integers) (f : Form) where
   unfolding formTrue
   is-divided k = rw (eqZ→eq (f .kind) isDivided k) (divides→multiple (f .divisor) _, multiple→divides (f .divisor) _)
 
-same-value : (ρ : Integers) (a b : Row) → T (sameRow a b) → value a ρ ≡ value b ρ
+pub same-value : (ρ : Integers) (a b : Row) → T (sameRow a b) → value a ρ ≡ value b ρ
 same-value ρ a b t = ap (λ (r : Row). value r ρ) (eqZs→eq a b t)
 
 -- ---- TO and TR

@@ -1,9 +1,12 @@
--- The conditions on rows under which the rules of the checker make a line.
-use mathlib.Core.Bool.{Bool, not, _&&_, _||_}
+-- The conditions on rows, and on forms, under which the rules of the checker make a line.
+use mathlib.Core.Bool.{Bool, true, false, not, _&&_, _||_}
+use mathlib.Core.List.{List, [], _∷_}
+use Prim.Native.Nat.{ℕ, suc}
 use lib.IntN.{ℤ, pos, _-ℤ_, _*ℤ_}
 use lib.Signed.{ltZ, leZ}
 use Rattle.ints.specs.Tests.{eqZ, eqZs, divides, all}
-use Rattle.rows.specs.Row.{Row, constant, coefficients, scaled, minus, oneMinus, oneMore}
+use Rattle.rows.specs.Row.{Row, constant, coefficients, scaled, shifted, minus, oneMinus, oneMore}
+use Rattle.rows.specs.Form.{Form, isDivided}
 
 -- WK: equal rows
 abbrev pub sameRow : Row → Row → Bool
@@ -35,3 +38,26 @@ farkas r = all (λ k. eqZ k (pos 0)) (coefficients r) && leZ (pos 1) (constant r
 -- CL: every coefficient of the sum is a multiple of d, and the constant is not
 unfoldable pub clash : ℤ → Row → Bool
 clash d r = all (divides d) (coefficients r) && not (divides d (constant r))
+
+-- AR: a divides form of the divisor d
+abbrev pub dividedBy : ℤ → Form → Bool
+dividedBy d f = eqZ (f .kind) isDivided && eqZ (f .divisor) d
+
+-- AR: each row is r plus its place, where the first of them has place i
+unfoldable pub neighboursFrom : ℕ → Row → List Row → Bool
+neighboursFrom i r [] = true
+neighboursFrom i r (s ∷ ss) = sameRow s (shifted (pos i) r) && neighboursFrom (suc i) r ss
+
+-- AR: the row at place i, counted from 0, is the first row plus i
+unfoldable pub neighbours : List Row → Bool
+unfolding neighboursFrom
+neighbours [] = false
+neighbours (r ∷ ss) = neighboursFrom 1 r ss
+
+-- LF: equal rows, and the divisor of h divides that of g
+unfoldable pub loosens : Form → Form → Bool
+loosens g h = sameRow (g .row) (h .row) && divides (h .divisor) (g .divisor)
+
+-- SU and SD: the row and the divisor of h are k times those of g
+unfoldable pub scales : ℤ → Form → Form → Bool
+scales k g h = sameRow (h .row) (scaled k (g .row)) && eqZ (h .divisor) (k *ℤ g .divisor)

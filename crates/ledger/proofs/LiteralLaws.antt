@@ -1,15 +1,15 @@
 -- The lists that lines are made by: which literals `joined`, `lineOf` and `without` leave, in which order, and how many.
-use mathlib.Core.Path.{_≡_, refl, sym, _∙_}
+use mathlib.Core.Path.{_≡_, refl, sym, ap, _∙_}
 use mathlib.Core.Bool.{Bool, true, false, not, _||_, cond, or-assoc, or-false}
 use mathlib.Core.List.{List, [], _∷_, map}
-use Prim.Native.Nat.{ℕ, _+_, _≤_}
+use Prim.Native.Nat.{ℕ, suc, _+_, _≤_}
 use native.Mathlib.Omega.{arith}
-use lib.Dec.{T, eqb, ltb, eqb→eq, ltb→lt, lt→ltb, nltb→le}
+use lib.Dec.{T, T-not, eqb, ltb, eqb→eq, eqb-refl, ltb→lt, lt→ltb, nltb→le}
 use lib.ListN.{length}
-use Rattle.ints.specs.Tests.{all, any}
-use Rattle.ints.proofs.Bools.{T-and, and-T}
-use Rattle.ints.proofs.Lists.{all-implies}
-use Rattle.ledger.specs.Literals.{negated, ascendingFrom, ascending, joined, lineOf, without}
+use Rattle.ints.specs.Tests.{all, any, different}
+use Rattle.ints.proofs.Bools.{T-and, and-T, T→false, false→T}
+use Rattle.ints.proofs.Lists.{all-implies, all-map}
+use Rattle.ledger.specs.Literals.{unnegated, negated, ascendingFrom, ascending, joined, lineOf, without}
 
 -- ---- which literals
 
@@ -156,3 +156,34 @@ length-joined (x ∷ xs) (y ∷ ys) =
 pub length-lineOf : (xs : List ℕ) → length (lineOf xs) ≤ length xs
 length-lineOf [] = omega arith
 length-lineOf (x ∷ xs) = omega (arith, length-joined (x ∷ []) (lineOf xs), length-lineOf xs)
+
+-- ---- numbers that are all different
+
+length-joined-one : (x : ℕ) (ys : List ℕ) → T (all (λ y. not (eqb x y)) ys) → length (joined (x ∷ []) ys) ≡ suc (length ys)
+length-joined-one x [] t = refl
+length-joined-one x (y ∷ ys) t =
+    let (other, rest) = T-and (not (eqb x y)) (all (λ y. not (eqb x y)) ys) t in
+    placed (λ zs. length zs ≡ suc (suc (length ys))) x y (x ∷ y ∷ ys) (y ∷ joined (x ∷ []) ys) (x ∷ ys)
+    (λ _. refl)
+    (λ _. ap suc (length-joined-one x ys rest))
+    (λ e. absurd (T-not (eqb x y) other (rw e (eqb-refl y))))
+
+pub length-lineOf-different : (xs : List ℕ) → T (different xs) → length (lineOf xs) ≡ length xs
+length-lineOf-different [] t = refl
+length-lineOf-different (x ∷ xs) t =
+    let (others, rest) = T-and (all (λ y. not (eqb x y)) xs) (different xs) t in
+    length-joined-one x (lineOf xs) (all-lineOf (λ y. not (eqb x y)) xs others) ∙ ap suc (length-lineOf-different xs rest)
+
+-- the literals of forms that are all different
+pub different-unnegated : (gs : List ℕ) → T (different gs) → T (different (map unnegated gs))
+different-unnegated [] t = tt
+different-unnegated (g ∷ gs) t =
+    let (others, rest) = T-and (all (λ y. not (eqb g y)) gs) (different gs) t in
+    and-T (all (λ y. not (eqb (unnegated g) y)) (map unnegated gs)) (different (map unnegated gs))
+    (rw (all-map (λ y. not (eqb (unnegated g) y)) unnegated gs)
+    (all-implies (λ y. not (eqb g y)) (λ y. not (eqb (unnegated g) (unnegated y)))
+    (λ y u. false→T (T→false (eqb (unnegated g) (unnegated y)) (λ d. T-not (eqb g y) u (doubled g y (eqb→eq (unnegated g) (unnegated y) d))))) gs others))
+    (different-unnegated gs rest)
+  where
+    doubled : (x y : ℕ) → unnegated x ≡ unnegated y → T (eqb x y)
+    doubled x y e = let f : x ≡ y = omega arith in rw f (eqb-refl y)

@@ -1,3 +1,4 @@
 pub mod Filler
 pub mod JoinLaws
 pub mod LessLaws
+pub mod SortLaws

@@ -1,5 +1,6 @@
-// Lists of literals in slices: joined, tested, gathered without one of them, and written for forms. Nothing here knows of sessions or tables.
+// Lists of literals in slices: joined, tested, gathered without one of them, sorted, and written for forms. Nothing here knows of sessions or tables.
 pub mod gather;
 pub mod join;
+pub mod sort;
 pub mod tests;
 pub mod write;

@@ -15,9 +15,10 @@ from proofs import (AT_MOST, DIVIDES, MAX_DIVISOR, MAX_FACTOR, MAX_FORMS,  # noq
                     MAX_LINES, MAX_LITERALS, MAX_OPEN, MAX_VALUE, MAX_WIDTH, UNKNOWNS, ZERO,
                     Proof, constant, encode, plus, times)
 
-MARKS = ("FM", "PM", "RS", "FK", "TO", "TR", "EQ", "TI", "WK", "CL", "OP", "WD")
-SAME_SHAPE = (("RS", "TR"), ("TO", "EQ", "WK"), ("FK", "CL"), ("OP", "WD"))
-STEPS = ([proofs.family_step, proofs.tightening_step, proofs.farkas_step, proofs.divides_step]
+MARKS = ("FM", "PM", "RS", "FK", "TO", "TR", "EQ", "TI", "WK", "CL", "AR", "LF", "SU", "SD", "OP", "WD")
+SAME_SHAPE = (("RS", "TR", "SU", "SD"), ("TO", "EQ", "WK", "LF"), ("FK", "CL"), ("PM", "AR"), ("OP", "WD"))
+STEPS = ([proofs.family_step, proofs.tightening_step, proofs.farkas_step, proofs.divides_step,
+          proofs.remainder_step, proofs.divisor_step]
          + 2 * [proofs.premise_step] + 4 * [proofs.resolution_step] + 2 * [proofs.drain_step])
 
 FACTORS = (1, 1, -1, 0, 2, MAX_FACTOR, MAX_FACTOR + 1, -MAX_FACTOR, -MAX_FACTOR - 1,
@@ -125,7 +126,7 @@ def damaged_record(rng, record):
             return (rng.choice(group), *fields)
     if mark == "FM":
         return damaged_form(rng, *fields)
-    if mark == "PM":
+    if mark in ("PM", "AR"):
         return mark, damaged_list(rng, fields[0], lambda l: near(rng, l))
     if mark in ("FK", "CL"):
         return mark, damaged_list(rng, fields[0], lambda e: damaged_entry(rng, e))
@@ -271,6 +272,54 @@ def divides_edge(proof, rng):
     sum_edge(proof, rng, "CL", entries)
 
 
+def remainder_edge(proof, rng):
+    """Neighbours, also at the largest constants; now and then one that does not fit, or forms in another order."""
+    count = rng.choice((1, 2, 2, 3, 4, 31, 32))
+    row = proofs.random_row(rng, 9, rng.randint(0, UNKNOWNS))
+    row = (rng.choice((row[0], MAX_VALUE - count + 1, MAX_VALUE - 1, MAX_VALUE, -MAX_VALUE)),) + row[1:]
+    picks = [make(proof, rng, DIVIDES, off_by_one(rng, plus(constant(i), row), 0.1 / count),
+                  count if rng.random() > 0.05 / count else rng.randint(1, MAX_WIDTH))
+             for i in rng.sample(range(count), count)]
+    order = sorted(range(count), key=lambda i: proof.forms[picks[i]][2])
+    picks = [picks[i] for i in order]
+    at = rng.randrange(count)
+    what = rng.randrange(12)
+    if what == 0:
+        picks[at], picks[-1] = picks[-1], picks[at]
+    elif what == 1:
+        picks[at] = near(rng, picks[at])
+    elif what == 2:
+        del picks[at]
+    elif what == 3:
+        picks += picks[-1:]
+    proof.line([2 * f for f in picks], "AR", tuple(picks))
+
+
+def divisor_edge(proof, rng):
+    """LF, SU and SD; now and then a divisor, a factor or a row that is not so many times the other."""
+    if rng.random() < 0.4:
+        row = proofs.any_row(rng)
+        small = rng.choice((1, 2, 3, 4, 12, 255, MAX_DIVISOR))
+        large = rng.choice((small, small * rng.randint(1, MAX_DIVISOR // small), rng.randint(1, 12)))
+        pair = [make(proof, rng, DIVIDES, off_by_one(rng, row, 0.1), d) for d in (large, small)]
+        if rng.random() < 0.15:
+            pair.reverse()
+        proof.loosening(*pair)
+        return
+    k = rng.choice((1, 2, 3, 3, 256, 257, 1000, MAX_DIVISOR))
+    row = proofs.random_row(rng, min(1000, MAX_VALUE // k), rng.randint(0, UNKNOWNS))
+    divisor = rng.choice((1, rng.randint(1, MAX_DIVISOR // k), 256, MAX_DIVISOR))
+    small = make(proof, rng, DIVIDES, off_by_one(rng, row, 0.08), divisor)
+    # what 16 bits keep of the divisor, and 32 of the row
+    product = (k * divisor) % 65_536 or 1
+    cells = tuple((cell + 2**31) % 2**32 - 2**31 for cell in times(k, proof.forms[small][2]))
+    large = make(proof, rng, DIVIDES, off_by_one(rng, cells, 0.08), product)
+    if rng.random() < 0.15:
+        k = rng.choice((0, 1, k + 1, k - 1, MAX_DIVISOR)) & 0xFFFF
+    pair = (large, small) if rng.random() < 0.1 else (small, large)
+    rng.choice((proof.scaling_up, proof.scaling_down))(*pair, k)
+
+
 def rows_edge(proof, rng):
     """Two or three rows under a rule, now and then one of them off by one."""
     row = proofs.any_row(rng) if rng.random() < 0.9 else constant(rng.choice((0, 1, -1)))
@@ -370,16 +419,19 @@ def rule_numbers_edge(proof, rng):
     top = max(len(proof.forms), 1)
     some = [rng.randrange(top) for _ in range(3)]
     some[rng.randrange(3)] = rng.choice((top - 1, top, top, top + 1, 65_535))
-    mark = rng.choice(("TO", "TR", "EQ", "TI", "WK", "FK", "CL"))
-    if mark in ("FK", "CL"):
+    mark = rng.choice(("TO", "TR", "EQ", "TI", "WK", "FK", "CL", "AR", "LF", "SU", "SD"))
+    if mark == "AR":
+        proof.line((), mark, tuple(some))
+    elif mark in ("FK", "CL"):
         proof.line((), mark, tuple((f, rng.choice(FACTORS)) for f in sorted(some)))
     elif mark == "TI":
         proof.line((), mark, some[0], some[1], rng.choice(FACTORS))
     else:
-        proof.line((), mark, *some[:3 if mark == "TR" else 2])
+        proof.line((), mark, *some[:3 if mark in ("TR", "SU", "SD") else 2])
 
 
 EDGES = (4 * [tightening_edge] + 4 * [farkas_edge] + 4 * [divides_edge] + 4 * [rows_edge]
+         + 5 * [remainder_edge] + 5 * [divisor_edge]
          + 3 * [bounds_edge] + 2 * [wrap_edge] + 2 * [form_edge] + 4 * [premise_edge]
          + 4 * [resolution_edge] + 6 * [width_edge] + 3 * [level_edge] + 4 * [rule_numbers_edge])
 
@@ -426,6 +478,8 @@ def full(rng):
     members = proofs.family(proof, rng)
     farkas = proofs.farkas_group(proof, rng, 3, 1)
     divides = proofs.divides_group(proof, rng, 2, 7, 3)
+    neighbours = proofs.neighbours(proof, rng, 3, proofs.any_row(rng))
+    pair = proofs.scaled_pair(proof, rng)
     while len(proof.forms) < 20:
         proof.form(ZERO, constant(rng.randint(-1, 1)))
     for _ in range(rng.randrange(3)):
@@ -439,6 +493,8 @@ def full(rng):
             proof.resolution(*found)
 
     rules = [lambda: proof.farkas(farkas), lambda: proof.divides(divides), resolve,
+             lambda: proof.remainder(neighbours), lambda: proof.loosening(pair[0], pair[0]),
+             lambda: proof.scaling_up(*pair), lambda: proof.scaling_down(*pair),
              lambda: proof.premise(rng.sample(range(40), rng.randrange(5))),
              *2 * [lambda: rng.choice(proofs.family_rules(proof, rng, members))()]]
     others = [proof.open, lambda: proof.form(AT_MOST, constant(1)),
@@ -446,6 +502,7 @@ def full(rng):
               lambda: rng.choice(EDGES)(proof, rng)]
     # room is looked at last: what is wrong with a record counts before it
     wrong = [lambda: proof.farkas(farkas[:2]), lambda: proof.divides(divides[:1]),
+             lambda: proof.remainder(neighbours[:2]), lambda: proof.scaling_up(pair[0], pair[1], 0),
              lambda: proof.totality(members[1], members[2]),
              lambda: proof.form(rng.choice((0, 4)), constant(0))]
     likely = rules if fill in (fill_lines, fill_literals) else others

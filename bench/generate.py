@@ -173,7 +173,30 @@ def levels(rng):
     return Stream(head, [round_on(head, fill) for _ in range(512)])
 
 
-KINDS = {kind.__name__: kind for kind in (mixed, sums, resolution, forms, premises, levels)}
+def remainders(rng):
+    """AR of 32 forms on as many families, and between them LF, SU and SD."""
+    head = Proof()
+    families = [proofs.neighbours(head, rng, MAX_WIDTH, proofs.random_row(rng, size))
+                for size in (9, 1000, MAX_VALUE - MAX_WIDTH)]
+    pairs = [proofs.scaled_pair(head, rng) for _ in range(40)]
+    looser = []
+    for _ in range(40):
+        row, small = proofs.any_row(rng), rng.randint(1, 255)
+        looser.append((head.form(DIVIDES, row, small * rng.randint(1, 255)), head.form(DIVIDES, row, small)))
+
+    def fill(part):
+        while part.fits(0, 7, MAX_WIDTH + 12):
+            part.remainder(rng.choice(families))
+            for _ in range(2):
+                part.loosening(*rng.choice(looser))
+                part.scaling_up(*rng.choice(pairs))
+                part.scaling_down(*rng.choice(pairs))
+
+    return Stream(head, [round_on(head, fill) for _ in range(64)])
+
+
+KINDS = {kind.__name__: kind
+         for kind in (mixed, sums, resolution, forms, premises, levels, remainders)}
 
 
 def write(stream, rng, limit, out):

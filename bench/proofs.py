@@ -29,7 +29,7 @@ def encode(record):
     if mark == "FM":
         kind, divisor, row = fields
         return out + bytes([kind & 0xFF]) + u16(divisor) + b"".join(map(i32, row))
-    if mark == "PM":
+    if mark in ("PM", "AR"):
         return out + bytes([len(fields[0]) & 0xFF]) + b"".join(map(u16, fields[0]))
     if mark in ("FK", "CL"):
         entries = b"".join(u16(f) + i32(m) for f, m in fields[0])
@@ -122,6 +122,18 @@ class Proof:
 
     def weakening(self, z, g):
         return self.line((2 * z + 1, 2 * g), "WK", z, g)
+
+    def remainder(self, picks):
+        return self.line([2 * f for f in picks], "AR", tuple(picks))
+
+    def loosening(self, g, h):
+        return self.line((2 * g + 1, 2 * h), "LF", g, h)
+
+    def scaling_up(self, g, h, k):
+        return self.line((2 * g + 1, 2 * h), "SU", g, h, k)
+
+    def scaling_down(self, g, h, k):
+        return self.line((2 * h + 1, 2 * g), "SD", g, h, k)
 
     def joined(self, pivot, first, second):
         return ((set(self.lines[first]) - {2 * pivot})
@@ -244,6 +256,40 @@ def divides_step(proof, rng):
     if proof.fits(count, 1, count):
         divisor = rng.choice((2, 3, 4, 12, 1000, MAX_DIVISOR))
         proof.divides(divides_group(proof, rng, count, divisor, rng.randrange(1, divisor)))
+
+
+def neighbours(proof, rng, count, row):
+    """Divides forms on the row plus 0, 1 and so on, made in any order and listed in this one."""
+    numbers = {}
+    for i in rng.sample(range(count), count):
+        numbers[i] = proof.form(DIVIDES, plus(constant(i), row), count)
+    return [numbers[i] for i in range(count)]
+
+
+def remainder_step(proof, rng):
+    count = rng.choice((1, 2, 2, 3, 4, 4, 8, 32))
+    if proof.fits(count, 1, count):
+        size = rng.choice((9, 1000, MAX_VALUE - MAX_WIDTH))
+        proof.remainder(neighbours(proof, rng, count, random_row(rng, size, rng.randint(0, UNKNOWNS))))
+
+
+def scaled_pair(proof, rng):
+    """Two divides forms, the second so many times the first, and how many times."""
+    k = rng.choice((1, 2, 3, 12, rng.randint(1, 1000), MAX_DIVISOR))
+    row = random_row(rng, min(1000, MAX_VALUE // k), rng.randint(0, UNKNOWNS))
+    divisor = rng.randint(1, MAX_DIVISOR // k)
+    return proof.form(DIVIDES, row, divisor), proof.form(DIVIDES, times(k, row), k * divisor), k
+
+
+def divisor_step(proof, rng):
+    """A divisor of the divisor, and row and divisor times a factor."""
+    if not proof.fits(4, 3, 6):
+        return
+    pair = scaled_pair(proof, rng)
+    proof.scaling_up(*pair)
+    proof.scaling_down(*pair)
+    row, small = any_row(rng), rng.randint(1, 255)
+    proof.loosening(proof.form(DIVIDES, row, small * rng.randint(1, 255)), proof.form(DIVIDES, row, small))
 
 
 def premise_step(proof, rng):

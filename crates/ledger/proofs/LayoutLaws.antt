@@ -8,7 +8,7 @@ use native.Mathlib.Nat.{mul-le-mul-left, mul-le-mul-right}
 use lib.Dec.{T, eqb, leb, leb→le, eqb→eq}
 use Rattle.ints.proofs.Bools.{T-and}
 use Rattle.rows.specs.Limits.{mostTerms}
-use Rattle.ledger.specs.Record.{RuleMark, fm, pm, rs, fk, to, tr, eq, ti, wk, cl, RecordMark, ofRule, op, wd, Layout, layout}
+use Rattle.ledger.specs.Record.{RuleMark, fm, pm, rs, fk, to, tr, eq, ti, wk, cl, ar, lf, su, sd, RecordMark, ofRule, op, wd, Layout, layout}
 use Rattle.ledger.specs.Checks.{countIn}
 use Rattle.ledger.specs.Bytes.{bytesFor}
 
@@ -36,6 +36,10 @@ of-rule eq = (tt, tt, tt, tt, tt, tt)
 of-rule ti = (tt, tt, tt, tt, tt, tt)
 of-rule wk = (tt, tt, tt, tt, tt, tt)
 of-rule cl = (tt, tt, tt, tt, tt, tt)
+of-rule ar = (tt, tt, tt, tt, tt, tt)
+of-rule lf = (tt, tt, tt, tt, tt, tt)
+of-rule su = (tt, tt, tt, tt, tt, tt)
+of-rule sd = (tt, tt, tt, tt, tt, tt)
 
 sensible : (m : RecordMark) → Sensible (layout m)
 sensible (ofRule m) = of-rule m

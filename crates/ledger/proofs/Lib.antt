@@ -17,3 +17,4 @@ pub mod ExampleLaws
 pub mod FrontLaws
 pub mod FrontCut
 pub mod Splitting
+pub mod Remainders

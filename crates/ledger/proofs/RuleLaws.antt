@@ -8,7 +8,7 @@ use native.Mathlib.Omega.{arith}
 use lib.Dec.{T, leb, ltb→lt, leb→le}
 use lib.IntN.{pos}
 use lib.ListN.{length, getD, length-map}
-use lib.Signed.{leZ}
+use lib.Signed.{leZ, leZ-yes}
 use Rattle.ints.specs.Tests.{all, any}
 use Rattle.ints.proofs.Lists.{length-upTo}
 use Rattle.ints.proofs.Bools.{T-and, and-T, or-left, or-right}
@@ -17,12 +17,13 @@ use Rattle.rows.specs.Form.{Form, legal}
 use Rattle.rows.specs.Sum.{Term}
 use Rattle.rows.specs.Truth.{Integers, formTrue}
 use Rattle.rows.proofs.Sound.{totality, trichotomy, equation, weakening, tightening, farkas-sound, clash-sound}
+use Rattle.rows.proofs.Remainders.{remainder-sound, loosening, scaling-up, scaling-down}
 use Rattle.ledger.specs.Limits.{longestLine}
 use Rattle.ledger.specs.Literals.{unnegated, negated, ascending, lineOf, without, below}
 use Rattle.ledger.specs.Ledger.{Line, noLine, nthForm, nthLine, New, newForm, newLine, Ledger}
-use Rattle.ledger.specs.Record.{Rule, FM, PM, RS, FK, TO, TR, EQ, TI, WK, CL, Record, make, OP, WD}
+use Rattle.ledger.specs.Record.{Rule, FM, PM, RS, FK, TO, TR, EQ, TI, WK, CL, AR, LF, SU, SD, Record, make, OP, WD}
 use Rattle.ledger.specs.Checks.{formIn, lineIn, formsOf, firstDivisor, resolvent, derivedLine, makes, tests, Passed, checks}
-use Rattle.ledger.specs.Record.{fm, pm, rs, fk, to, tr, eq, ti, wk, cl, ofRule, op, wd}
+use Rattle.ledger.specs.Record.{fm, pm, rs, fk, to, tr, eq, ti, wk, cl, ar, lf, su, sd, ofRule, op, wd}
 use Rattle.ledger.specs.Numbers.{recordOrder, follow}
 use Rattle.ledger.specs.Bytes.{Bearing, unknown, bears, markOf, countFrom, shapeOf, shape, decodeAs, decode}
 use Rattle.ledger.proofs.LayoutLaws.{count-most}
@@ -48,6 +49,10 @@ checks-follow n l (make (EQ z a)) = tt
 checks-follow n l (make (TI a b c)) = tt
 checks-follow n l (make (WK z g)) = tt
 checks-follow n l (make (CL ts)) = tt
+checks-follow n l (make (AR gs)) = tt
+checks-follow n l (make (LF g h)) = tt
+checks-follow n l (make (SU g h k)) = tt
+checks-follow n l (make (SD g h k)) = tt
 checks-follow n l OP = tt
 checks-follow n l WD = tt
 
@@ -65,6 +70,10 @@ listed (EQ z a) = 0
 listed (TI a b c) = 0
 listed (WK z g) = 0
 listed (CL ts) = length ts
+listed (AR gs) = length gs
+listed (LF g h) = 0
+listed (SU g h k) = 0
+listed (SD g h k) = 0
 
 abbrev pub Brought : Record → Type 0
 Brought (make r) = listed r ≤ longestLine
@@ -90,6 +99,10 @@ brought b p = go (markOf b) (p .1)
     go (bears (ofRule ti)) q = omega arith
     go (bears (ofRule wk)) q = omega arith
     go (bears (ofRule cl)) q = rw length-upTo (count-most (ofRule cl) (countFrom (ofRule cl) b) (q .1 .1 .0))
+    go (bears (ofRule ar)) q = rw length-upTo (count-most (ofRule ar) (countFrom (ofRule ar) b) (q .1 .1 .0))
+    go (bears (ofRule lf)) q = omega arith
+    go (bears (ofRule su)) q = omega arith
+    go (bears (ofRule sd)) q = omega arith
 
 -- the lines that a rule draws on
 abbrev pub parents : Rule → List ℕ
@@ -103,6 +116,10 @@ parents (EQ z a) = []
 parents (TI a b c) = []
 parents (WK z g) = []
 parents (CL ts) = []
+parents (AR gs) = []
+parents (LF g h) = []
+parents (SU g h k) = []
+parents (SD g h k) = []
 
 -- ---- what is owed for what it makes
 
@@ -251,3 +268,15 @@ module _ (n : ℕ) (fs : List Form) (ls : List Line) (each : LegalLines (length 
   owed (CL ts) few (names, (ascends, (kinds, (_, (divisors, (sum, _)))))) =
       negated-owed n fs ls ts few names ascends
       (λ ρ. clash-sound ρ n (nthForm fs) ts (firstDivisor fs ts) kinds divisors sum)
+  owed (AR gs) few (names, (divided, (rows, _))) =
+      line-owed n fs ls (map unnegated gs) (simp length-map few) (rw (all-map (below (length fs)) unnegated gs) (simp unnegated-names names))
+      (λ ρ. simp (any-map, unnegated-true) (remainder-sound ρ (nthForm fs) gs divided rows))
+  owed (LF g h) few (gIn, (hIn, (kg, (kh, (condition, _))))) =
+      pair-owed n fs ls (negated g) (unnegated h) (rw negated-names gIn) (rw unnegated-names hIn)
+      (λ ρ. simp (unnegated-true, negated-true) (loosening ρ (nthForm fs g) (nthForm fs h) kg kh condition))
+  owed (SU g h k) few (gIn, (hIn, (kg, (kh, (_, (condition, _)))))) =
+      pair-owed n fs ls (negated g) (unnegated h) (rw negated-names gIn) (rw unnegated-names hIn)
+      (λ ρ. simp (unnegated-true, negated-true) (scaling-up ρ (pos k) (nthForm fs g) (nthForm fs h) kg kh condition))
+  owed (SD g h k) few (gIn, (hIn, (kg, (kh, (positive, (condition, _)))))) =
+      pair-owed n fs ls (negated h) (unnegated g) (rw negated-names hIn) (rw unnegated-names gIn)
+      (λ ρ. simp (unnegated-true, negated-true) (scaling-down ρ (pos k) (nthForm fs g) (nthForm fs h) kg kh condition (leZ-yes positive)))

@@ -10,8 +10,9 @@ use Rattle.rows.specs.Form.{Form}
 use Rattle.rows.specs.Sum.{Term}
 use Rattle.ledger.specs.Limits.{carried}
 use Rattle.ledger.specs.Ledger.{Ledger}
-use Rattle.ledger.specs.Record.{Rule, FM, PM, RS, FK, TO, TR, EQ, TI, WK, CL, Record, make, OP, WD}
-use Rattle.ledger.specs.Record.{RuleMark, fm, pm, rs, fk, to, tr, eq, ti, wk, cl, RecordMark, ofRule, op, wd, ruleLayout, layout, marks}
+use Rattle.ledger.specs.Record.{Rule, FM, PM, RS, FK, TO, TR, EQ, TI, WK, CL, AR, LF, SU, SD, Record, make, OP, WD}
+use Rattle.ledger.specs.Record.{RuleMark, fm, pm, rs, fk, to, tr, eq, ti, wk, cl, ar, lf, su, sd}
+use Rattle.ledger.specs.Record.{RecordMark, ofRule, op, wd, ruleLayout, layout, marks}
 use Rattle.ledger.specs.Checks.{Check, _else_, countIn}
 use Rattle.ledger.specs.Apply.{finding, Outcome, judged, apply}
 
@@ -92,6 +93,10 @@ ruleFrom b eq = EQ (u16At b 2) (u16At b 4)
 ruleFrom b ti = TI (u16At b 2) (u16At b 4) (i32At b 6)
 ruleFrom b wk = WK (u16At b 2) (u16At b 4)
 ruleFrom b cl = CL (termsBehind (ruleLayout cl .place) b)
+ruleFrom b ar = AR (numbersBehind (ruleLayout ar .place) b)
+ruleFrom b lf = LF (u16At b 2) (u16At b 4)
+ruleFrom b su = SU (u16At b 2) (u16At b 4) (u16At b 6)
+ruleFrom b sd = SD (u16At b 2) (u16At b 4) (u16At b 6)
 
 abbrev pub fields : List ℕ → RecordMark → Record
 fields b (ofRule m) = make (ruleFrom b m)

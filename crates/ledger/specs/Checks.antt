@@ -9,11 +9,12 @@ use Rattle.ints.specs.Tests.{eqZ, between, all}
 use Rattle.rows.specs.Limits.{largestMultiplier}
 use Rattle.rows.specs.Form.{Form, atMost, isZero, isDivided, legal, legalMultiplier}
 use Rattle.rows.specs.Sum.{Term, summed}
-use Rattle.rows.specs.Conditions.{sameRow, isOneMinus, isOneMore, isEither, tightens, farkas, clash}
+use Rattle.rows.specs.Conditions.{sameRow, isOneMinus, isOneMore, isEither, tightens, farkas, clash, dividedBy, neighbours, loosens, scales}
 use Rattle.ledger.specs.Limits.{mostForms, mostLines, mostLiterals, mostLevels, longestLine}
 use Rattle.ledger.specs.Literals.{unnegated, negated, formNamed, ascending, holds, joined, lineOf, without}
 use Rattle.ledger.specs.Ledger.{Line, premise, derived, Ledger, nthForm, nthRow, nthLine, literalCount, New, newForm, newLine}
-use Rattle.ledger.specs.Record.{Rule, FM, PM, RS, FK, TO, TR, EQ, TI, WK, CL, Record, make, OP, WD, RecordMark, layout, form, marks}
+use Rattle.ledger.specs.Record.{Rule, FM, PM, RS, FK, TO, TR, EQ, TI, WK, CL, AR, LF, SU, SD}
+use Rattle.ledger.specs.Record.{Record, make, OP, WD, RecordMark, layout, form, marks}
 
 -- a test, and the refusal's number where it fails
 pub record Check : Type 0 where
@@ -56,6 +57,11 @@ firstDivisor fs (t ∷ ts) = nthForm fs (t .form) .divisor
 abbrev pub bothAre : List Form → ℤ → ℕ → ℤ → ℕ → List Check
 bothAre fs j a k b = (formIn fs a else 8) ∷ (formIn fs b else 8) ∷ (isKind fs j a else 10) ∷ (isKind fs k b else 10) ∷ []
 
+-- SU and SD: divides forms, of which the second is k times the first
+abbrev pub scaling : List Form → ℕ → ℕ → ℕ → List Check
+scaling fs g h k =
+    bothAre fs isDivided g isDivided h ++ ((leb 1 k else 10) ∷ (scales (pos k) (nthForm fs g) (nthForm fs h) else 11) ∷ [])
+
 -- RS: the first parent less the unnegated pivot, joined with the second less the negated one
 abbrev pub resolvent : List Line → ℕ → ℕ → ℕ → List ℕ
 resolvent ls p i j = joined (without (unnegated p) (nthLine ls i)) (without (negated p) (nthLine ls j))
@@ -76,6 +82,10 @@ makes ls (EQ z a) = derivedLine (lineOf (negated z ∷ unnegated a ∷ []))
 makes ls (TI a b c) = derivedLine (lineOf (negated a ∷ unnegated b ∷ []))
 makes ls (WK z g) = derivedLine (lineOf (negated z ∷ unnegated g ∷ []))
 makes ls (CL ts) = derivedLine (map negated (formsOf ts))
+makes ls (AR gs) = derivedLine (lineOf (map unnegated gs))
+makes ls (LF g h) = derivedLine (lineOf (negated g ∷ unnegated h ∷ []))
+makes ls (SU g h k) = derivedLine (lineOf (negated g ∷ unnegated h ∷ []))
+makes ls (SD g h k) = derivedLine (lineOf (negated h ∷ unnegated g ∷ []))
 
 -- ---- the tests of each rule, over n unknowns
 
@@ -121,6 +131,14 @@ tests n fs ls (CL ts) =
     ∷ (all (divisorIs fs (firstDivisor fs ts)) ts else 10)
     ∷ (clash (firstDivisor fs ts) (summed n (nthRow fs) ts) else 11)
     ∷ []
+tests n fs ls (AR gs) =
+    (all (formIn fs) gs else 8)
+    ∷ (all (λ g. dividedBy (pos (length gs)) (nthForm fs g)) gs else 10)
+    ∷ (neighbours (map (nthRow fs) gs) else 11)
+    ∷ []
+tests n fs ls (LF g h) = bothAre fs isDivided g isDivided h ++ ((loosens (nthForm fs g) (nthForm fs h) else 11) ∷ [])
+tests n fs ls (SU g h k) = scaling fs g h k
+tests n fs ls (SD g h k) = scaling fs g h k
 
 -- room for what is made
 unfoldable pub room : Ledger → New → List Check

@@ -11,7 +11,7 @@ use Rattle.rows.specs.Limits.{unknowns}
 use Rattle.rows.specs.Row.{Row}
 use Rattle.rows.specs.Form.{Form, formOf, legal, legalMultiplier}
 use Rattle.rows.specs.Sum.{Term, summedOnto}
-use Rattle.rows.specs.Conditions.{tightens, farkas, clash}
+use Rattle.rows.specs.Conditions.{tightens, farkas, clash, neighboursFrom, neighbours, loosens, scales}
 use Rattle.ledger.specs.Ledger.{Line, Mark, Ledger, fresh, literalCount, opened}
 use Rattle.ledger.specs.Record.{Answer, accepted, refused, Made, form, line, level}
 use Rattle.ledger.specs.Apply.{Outcome}
@@ -222,6 +222,19 @@ tiBytes a b c = 84 ∷ 73 ∷ (le16 a ++ le16 b ++ le32 c)
 abbrev pub wkBytes : (z g : ℕ) → List ℕ
 wkBytes z g = 87 ∷ 75 ∷ (le16 z ++ le16 g)
 
+unfoldable pub arBytes : List ℕ → List ℕ
+unfolding flatMap
+arBytes gs = 65 ∷ 82 ∷ length gs ∷ flatMap le16 gs
+
+abbrev pub lfBytes : (g h : ℕ) → List ℕ
+lfBytes g h = 76 ∷ 70 ∷ (le16 g ++ le16 h)
+
+abbrev pub suBytes : (g h k : ℕ) → List ℕ
+suBytes g h k = 83 ∷ 85 ∷ (le16 g ++ le16 h ++ le16 k)
+
+abbrev pub sdBytes : (g h k : ℕ) → List ℕ
+sdBytes g h k = 83 ∷ 68 ∷ (le16 g ++ le16 h ++ le16 k)
+
 abbrev pub opBytes : List ℕ
 opBytes = 79 ∷ 80 ∷ []
 
@@ -270,6 +283,39 @@ panel =
     -- 12: 1 ≤ 0
     ∷ atMostZero (row (pos 1) (pos 0) (pos 0))
     ∷ [])
+
+-- x is the socket of a lead, and sockets come in blocks of four
+abbrev pub sockets : List (List ℕ)
+sockets =
+    -- 0: 1 divides x
+    dividedBy 1 (row (pos 0) (pos 1) (pos 0))
+    -- 1 to 4: 4 divides x + 2, x, x + 3, x + 1
+    ∷ dividedBy 4 (row (pos 2) (pos 1) (pos 0))
+    ∷ dividedBy 4 (row (pos 0) (pos 1) (pos 0))
+    ∷ dividedBy 4 (row (pos 3) (pos 1) (pos 0))
+    ∷ dividedBy 4 (row (pos 1) (pos 1) (pos 0))
+    -- 5 and 6: 12 divides x, 5 divides x
+    ∷ dividedBy 12 (row (pos 0) (pos 1) (pos 0))
+    ∷ dividedBy 5 (row (pos 0) (pos 1) (pos 0))
+    -- 7: 12 divides 3x
+    ∷ dividedBy 12 (row (pos 0) (pos 3) (pos 0))
+    -- 8: x = 0
+    ∷ equalToZero (row (pos 0) (pos 1) (pos 0))
+    -- 9: 4 divides x + 4
+    ∷ dividedBy 4 (row (pos 4) (pos 1) (pos 0))
+    -- 10 and 11: 2 divides the two largest constants
+    ∷ dividedBy 2 (row (pos 999999999) (pos 0) (pos 0))
+    ∷ dividedBy 2 (row (pos 1000000000) (pos 0) (pos 0))
+    -- 12 and 13: 1 divides 65,537, and 65,535 divides −1, which 65,535 times 65,537 is in 32 bits
+    ∷ dividedBy 1 (row (pos 65537) (pos 0) (pos 0))
+    ∷ dividedBy 65535 (row (minus 1) (pos 0) (pos 0))
+    -- 14 and 15: 256 divides x and 257x; 257 times 256 is 256 in 16 bits
+    ∷ dividedBy 256 (row (pos 0) (pos 1) (pos 0))
+    ∷ dividedBy 256 (row (pos 0) (pos 257) (pos 0))
+    -- 16 and 17: 255 divides x, and 65,535 divides 257x
+    ∷ dividedBy 255 (row (pos 0) (pos 1) (pos 0))
+    ∷ dividedBy 65535 (row (pos 0) (pos 257) (pos 0))
+    ∷ []
 
 -- x ≤ 0, so many times
 abbrev pub forms : ℕ → List (List ℕ)
@@ -469,6 +515,73 @@ byMark =
     ((rsBytes 0 0 1 gives makesLine 3 2 (literals 2 34))
     ∷ (rsBytes 0 0 2 gives refuses 12)
     ∷ [])
+    ∷ after sockets
+    -- whatever x is, 1 divides it; and 4 divides x, x + 1, x + 2 or x + 3, whose literals ascend
+    ((arBytes (0 ∷ []) gives makesLine 0 2 (0 ∷ []))
+    ∷ (arBytes (2 ∷ 4 ∷ 1 ∷ 3 ∷ []) gives makesLine 0 2 (2 ∷ 4 ∷ 6 ∷ 8 ∷ []))
+    ∷ (arBytes (10 ∷ 11 ∷ []) gives makesLine 0 2 (20 ∷ 22 ∷ []))
+    ∷ ((65 ∷ 82 ∷ []) gives refuses 3)
+    ∷ (take 10 (arBytes (2 ∷ 4 ∷ 1 ∷ 3 ∷ [])) gives refuses 3)
+    ∷ ((arBytes (0 ∷ []) ++ (0 ∷ [])) gives refuses 3)
+    ∷ (arBytes [] gives refuses 5)
+    ∷ (arBytes (replicate 33 0) gives refuses 5)
+    ∷ (arBytes (18 ∷ []) gives refuses 8)
+    ∷ (arBytes (8 ∷ 4 ∷ 1 ∷ 18 ∷ []) gives refuses 8)
+    -- a form of another kind, another divisor, fewer forms than the divisor says
+    ∷ (arBytes (2 ∷ 4 ∷ 1 ∷ 8 ∷ []) gives refuses 10)
+    ∷ (arBytes (2 ∷ 4 ∷ 1 ∷ 5 ∷ []) gives refuses 10)
+    ∷ (arBytes (2 ∷ 4 ∷ 1 ∷ []) gives refuses 10)
+    -- x + 4 for x + 3, rows in another order, a form named twice, a constant that would be too large
+    ∷ (arBytes (2 ∷ 4 ∷ 1 ∷ 9 ∷ []) gives refuses 11)
+    ∷ (arBytes (4 ∷ 2 ∷ 1 ∷ 3 ∷ []) gives refuses 11)
+    ∷ (arBytes (2 ∷ 4 ∷ 1 ∷ 1 ∷ []) gives refuses 11)
+    ∷ (arBytes (11 ∷ 10 ∷ []) gives refuses 11)
+    -- 12 divides x, so 4 does
+    ∷ (lfBytes 5 2 gives makesLine 0 2 (4 ∷ 11 ∷ []))
+    ∷ (lfBytes 2 2 gives makesLine 0 2 (4 ∷ 5 ∷ []))
+    ∷ (take 5 (lfBytes 5 2) gives refuses 3)
+    ∷ (lfBytes 18 2 gives refuses 8)
+    ∷ (lfBytes 5 18 gives refuses 8)
+    ∷ (lfBytes 8 2 gives refuses 10)
+    ∷ (lfBytes 5 8 gives refuses 10)
+    -- 5 does not divide 12, nor 12 divide 4; and another row
+    ∷ (lfBytes 5 6 gives refuses 11)
+    ∷ (lfBytes 2 5 gives refuses 11)
+    ∷ (lfBytes 5 4 gives refuses 11)
+    -- 4 divides x where 12 divides 3x, and the other way round
+    ∷ (suBytes 2 7 3 gives makesLine 0 2 (5 ∷ 14 ∷ []))
+    ∷ (sdBytes 2 7 3 gives makesLine 0 2 (4 ∷ 15 ∷ []))
+    ∷ (suBytes 16 17 257 gives makesLine 0 2 (33 ∷ 34 ∷ []))
+    ∷ (sdBytes 16 17 257 gives makesLine 0 2 (32 ∷ 35 ∷ []))
+    ∷ (suBytes 2 2 1 gives makesLine 0 2 (4 ∷ 5 ∷ []))
+    ∷ (sdBytes 2 2 1 gives makesLine 0 2 (4 ∷ 5 ∷ []))
+    ∷ (take 7 (suBytes 2 7 3) gives refuses 3)
+    ∷ (take 7 (sdBytes 2 7 3) gives refuses 3)
+    ∷ (suBytes 18 7 3 gives refuses 8)
+    ∷ (suBytes 2 18 3 gives refuses 8)
+    ∷ (sdBytes 18 7 3 gives refuses 8)
+    ∷ (sdBytes 2 18 3 gives refuses 8)
+    ∷ (suBytes 8 7 3 gives refuses 10)
+    ∷ (suBytes 2 8 3 gives refuses 10)
+    ∷ (suBytes 2 7 0 gives refuses 10)
+    ∷ (sdBytes 8 7 3 gives refuses 10)
+    ∷ (sdBytes 2 8 3 gives refuses 10)
+    ∷ (sdBytes 2 7 0 gives refuses 10)
+    -- another factor, the forms the other way round, a row alone and a divisor alone that are so many times the other
+    ∷ (suBytes 2 7 2 gives refuses 11)
+    ∷ (sdBytes 2 7 2 gives refuses 11)
+    ∷ (suBytes 7 2 3 gives refuses 11)
+    ∷ (sdBytes 7 2 3 gives refuses 11)
+    ∷ (suBytes 5 7 3 gives refuses 11)
+    ∷ (suBytes 2 5 3 gives refuses 11)
+    -- products that would be right if they wrapped
+    ∷ (suBytes 12 13 65535 gives refuses 11)
+    ∷ (suBytes 14 15 257 gives refuses 11)
+    ∷ [])
+    -- 32 forms, written from the last to the first
+    ∷ after (upTo 32 (λ i. dividedBy 32 (row (pos (31 - i)) (pos 1) (pos 0))))
+    ((arBytes (upTo 32 (λ i. 31 - i)) gives makesLine 0 2 (upTo 32 (λ i. i + i)))
+    ∷ [])
     -- levels in levels
     ∷ after (twoLines ++ (opBytes ∷ pmBytes [] ∷ opBytes ∷ []))
     ((opBytes gives opens 3)
@@ -501,6 +614,12 @@ full =
     ∷ (wkBytes 5 7 gives refuses 7)
     ∷ (clBytes (term 8 (pos 1) ∷ []) gives refuses 7)
     ∷ (opBytes gives opens 1)
+    ∷ [])
+    ∷ after (sockets ++ replicate 512 (pmBytes []))
+    ((arBytes (0 ∷ []) gives refuses 7)
+    ∷ (lfBytes 5 2 gives refuses 7)
+    ∷ (suBytes 2 7 3 gives refuses 7)
+    ∷ (sdBytes 2 7 3 gives refuses 7)
     ∷ [])
     -- 4,095 literals, and 4,096
     ∷ after (forms 16 ++ replicate 127 (pmBytes (literals 0 32)) ++ (pmBytes (literals 0 31) ∷ []))
@@ -535,5 +654,5 @@ abbrev pub examples : List Example
 examples = starred ++ byMark ++ full ++ stopped
 
 pub all-hold : T (all holds examples)
-unfolding holds fmBytes pmBytes fkBytes clBytes flatMap legal legalMultiplier tightens farkas clash summedOnto upTo
+unfolding holds fmBytes pmBytes fkBytes clBytes arBytes flatMap legal legalMultiplier tightens farkas clash neighboursFrom neighbours loosens scales summedOnto upTo
 all-hold = tt

@@ -20,6 +20,10 @@ pub data Rule : Type 0 where
   TI : (a b : ℕ) (c : ℤ) → Rule
   WK : (z g : ℕ) → Rule
   CL : List Term → Rule
+  AR : List ℕ → Rule
+  LF : (g h : ℕ) → Rule
+  SU : (g h k : ℕ) → Rule
+  SD : (g h k : ℕ) → Rule
 
 pub data Record : Type 0 where
   make : Rule → Record
@@ -46,7 +50,7 @@ isAccepted (refused n) = ⊥
 
 -- the marks of the rules
 pub data RuleMark : Type 0 where
-  fm pm rs fk to tr eq ti wk cl : RuleMark
+  fm pm rs fk to tr eq ti wk cl ar lf su sd : RuleMark
 
 pub data RecordMark : Type 0 where
   ofRule : RuleMark → RecordMark
@@ -87,6 +91,10 @@ ruleLayout eq = fixed 69 81 6
 ruleLayout ti = fixed 84 73 10
 ruleLayout wk = fixed 87 75 6
 ruleLayout cl = counting 67 76 behindLetters 1 mostTerms 6
+ruleLayout ar = counting 65 82 behindLetters 1 longestLine 2
+ruleLayout lf = fixed 76 70 6
+ruleLayout su = fixed 83 85 8
+ruleLayout sd = fixed 83 68 8
 
 abbrev pub layout : RecordMark → Layout
 layout (ofRule m) = ruleLayout m
@@ -94,7 +102,7 @@ layout op = fixed 79 80 2
 layout wd = fixed 87 68 2
 
 abbrev pub ruleMarks : List RuleMark
-ruleMarks = fm ∷ pm ∷ rs ∷ fk ∷ to ∷ tr ∷ eq ∷ ti ∷ wk ∷ cl ∷ []
+ruleMarks = fm ∷ pm ∷ rs ∷ fk ∷ to ∷ tr ∷ eq ∷ ti ∷ wk ∷ cl ∷ ar ∷ lf ∷ su ∷ sd ∷ []
 
 abbrev pub marks : List RecordMark
 marks = map ofRule ruleMarks ++ (op ∷ wd ∷ [])

@@ -1,13 +1,15 @@
 -- A rule's proposal, from what its tests find: a refusal, or the line that it makes; and by a verdict, from the lists that were written.
 use mathlib.Core.Path.{_≡_, refl, sym, ap, ap₂, _∙_}
 use mathlib.Core.List.{List, [], _∷_, _++_, map}
-use Prim.Native.Nat.{ℕ, _≤_}
-use native.Mathlib.Nat.{sub-zero}
+use Prim.Native.Nat.{ℕ, _+_, _*_, _-_, _≤_}
+use native.Mathlib.Nat.{add-zero, sub-zero}
 use native.Mathlib.Omega.{arith}
+use lib.Dec.{T}
 use lib.IntN.{ℤ}
-use lib.ListN.{length, take, set}
+use lib.ListN.{length, take, set, length-map}
+use Rattle.ints.specs.Tests.{different}
 use Rattle.rows.specs.Form.{Form}
-use Rattle.ledger.specs.Literals.{negated, joined, lineOf}
+use Rattle.ledger.specs.Literals.{unnegated, negated, joined, lineOf}
 use Rattle.ledger.specs.Ledger.{Line, derived, New, newLine}
 use Rattle.ledger.specs.Record.{Rule, make}
 use Rattle.ledger.specs.Checks.{tests, makes, derivedLine}
@@ -16,7 +18,10 @@ use Rattle.ledger.specs.Settles.{proposes, proposedBy, proposed}
 use Rattle.session.specs.Answers.{numberOf, findingOf}
 use Rattle.session.specs.declared.answers.Verdict.{Verdict}
 use Rattle.session.specs.declared.answers.Verdict.the-variants.{Pass, Fail}
+use Rattle.literals.specs.Sorting.{sorted}
 use Rattle.literals.proofs.Filler.{front}
+use Rattle.literals.proofs.SortLaws.{sorted-line, length-sorted}
+use Rattle.ledger.proofs.LiteralLaws.{different-unnegated}
 use Rattle.session.specs.declared.answers.Refusal.{Refusal}
 use Rattle.proposals.specs.declared.NewLine.{NewLine}
 use Rattle.proposals.specs.declared.Proposal.{Proposal}
@@ -82,3 +87,15 @@ pub negated-made : {v : Verdict} (picks xs out : List ℕ) → v ≡ Pass → le
 negated-made picks xs out e h d =
     derived-by (derivedFrom 0 (length picks)) xs out (map negated picks) e refl d
     (record { first = omega arith; second = h })
+
+pub unnegated-made : {v : Verdict} (picks xs out ys more : List ℕ) → v ≡ Pass → T (different picks)
+    → take (length picks) out ≡ map (λ f. 2 * f + 0) picks → ys ≡ sorted (take (length picks - 0) out)
+    → ProposesBy v (derivedLine (lineOf (map unnegated picks))) (Makes (derivedFrom 0 (length picks))) xs (ys ++ more)
+unnegated-made picks xs out ys more e differ d o =
+    let plain : map (λ f. 2 * f + 0) picks ≡ map unnegated picks = ap (λ (f : ℕ → ℕ). map f picks) (λ i f. add-zero (2 * f) i) in
+    let all-sorted : ys ≡ sorted (map unnegated picks) = o ∙ ap sorted (rw sub-zero (d ∙ plain)) in
+    let many : length picks ≡ length ys = sym (ap length all-sorted ∙ length-sorted (map unnegated picks) ∙ length-map picks unnegated) in
+    let (w, b) = front ys more (ys ++ more) (length picks) many refl in
+    derived-by (derivedFrom 0 (length picks)) xs (ys ++ more) (lineOf (map unnegated picks)) e refl
+    (rw sub-zero at b ∙ all-sorted ∙ sorted-line (map unnegated picks) (different-unnegated picks differ))
+    (record { first = omega arith; second = w })

@@ -2,8 +2,10 @@
 use mathlib.Core.Path.{_≡_}
 use mathlib.Core.List.{List}
 use Prim.Native.Nat.{ℕ, _≤_, _<_}
+use lib.Dec.{T}
 use lib.IntN.{ℤ}
 use lib.ListN.{length, take}
+use Rattle.ints.specs.Tests.{different}
 use Rattle.rows.specs.Form.{formOf}
 use Rattle.ledger.specs.Literals.{joined}
 use Rattle.ledger.specs.Limits.{mostForms, longestLine}
@@ -72,3 +74,7 @@ LowThree v a b c = findingOf v ≡ pass → (a < mostForms) × (b < mostForms) �
 
 abbrev pub LowAll : Verdict → List ℕ → Type 0
 LowAll v picks = findingOf v ≡ pass → Low picks
+
+-- and are all different
+abbrev pub DifferentAll : Verdict → List ℕ → Type 0
+DifferentAll v picks = findingOf v ≡ pass → T (different picks)

@@ -6,7 +6,7 @@ ghost use lib.ListN.{length};
 ghost use Rattle.ledger.specs.Limits.{longestLine};
 ghost use Rattle.ledger.specs.Literals.{unnegated, negated, lineOf};
 ghost use Rattle.ledger.specs.Checks.{derivedLine};
-ghost use Rattle.proposals.specs.Proposing.{Scratch, ProposesBy, LowTwo, LowThree, LowAll};
+ghost use Rattle.proposals.specs.Proposing.{Scratch, ProposesBy, LowTwo, LowThree, LowAll, DifferentAll};
 use crate::NewLine;
 use crate::Proposal;
 use session::answers::Verdict;
@@ -49,5 +49,19 @@ pub fn all_negated(v: Verdict, picks: &[u16], second: &mut [u16]) -> Proposal
     }
     literals::write::write_literals(second, picks, 1);
     let count = picks.len();
+    Proposal::Line(NewLine::derived(0, count))
+}
+
+// Forms in any order, none negated.
+pub fn all_unnegated(v: Verdict, picks: &[u16], second: &mut [u16]) -> Proposal
+    requires { ⌜ LowAll v (now picks) × DifferentAll v (now picks) × (length (now picks) ≤ longestLine) × (length (now second) ≡ longestLine) ⌝ }
+    ensures { λ r. ⌜ ((xs : List ℕ) → ProposesBy v (derivedLine (lineOf (map unnegated (now (picks .entry))))) r xs (now (second .exit))) ⌝ }
+{
+    if let Verdict::Fail(why) = v {
+        return Proposal::Refused(why);
+    }
+    literals::write::write_literals(second, picks, 0);
+    let count = picks.len();
+    literals::sort::sort(&mut second[0..count]);
     Proposal::Line(NewLine::derived(0, count))
 }

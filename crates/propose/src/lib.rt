@@ -54,6 +54,10 @@ fn propose_rule(
         RuleMark::Ti => pairs::tightening(count, forms, bytes, first, second),
         RuleMark::Wk => pairs::weakening(count, forms, bytes, first, second),
         RuleMark::Cl => terms::clash(count, forms, bytes, cells, first, second),
+        RuleMark::Ar => remainders::remainder(count, forms, bytes, first, second),
+        RuleMark::Lf => remainders::loosening(count, forms, bytes, first, second),
+        RuleMark::Su => remainders::scaling_up(count, forms, bytes, first, second),
+        RuleMark::Sd => remainders::scaling_down(count, forms, bytes, first, second),
     }
 }
 

@@ -12,7 +12,7 @@ use Rattle.session.specs.Answers.{numberOf}
 use Rattle.records.specs.declared.marks.RecordMark.{RecordMark}
 use Rattle.records.specs.declared.marks.RecordMark.the-variants.{Rule, Op, Wd}
 use Rattle.records.specs.declared.marks.RuleMark.{RuleMark}
-use Rattle.records.specs.declared.marks.RuleMark.the-variants.{Fm, Pm, Rs, Fk, To, Tr, Eq, Ti, Wk, Cl}
+use Rattle.records.specs.declared.marks.RuleMark.the-variants.{Fm, Pm, Rs, Fk, To, Tr, Eq, Ti, Wk, Cl, Ar, Lf, Su, Sd}
 use Rattle.records.specs.declared.marks.Bearing.{Bearing}
 use Rattle.records.specs.declared.marks.Bearing.the-variants.{Unknown, Bears}
 use Rattle.records.specs.declared.marks.Layout.{Layout}
@@ -32,6 +32,10 @@ ruleMarkOf Eq = ledger.eq
 ruleMarkOf Ti = ledger.ti
 ruleMarkOf Wk = ledger.wk
 ruleMarkOf Cl = ledger.cl
+ruleMarkOf Ar = ledger.ar
+ruleMarkOf Lf = ledger.lf
+ruleMarkOf Su = ledger.su
+ruleMarkOf Sd = ledger.sd
 
 abbrev pub recordMarkOf : RecordMark → ledger.RecordMark
 recordMarkOf (Rule m) = ledger.ofRule (ruleMarkOf m)

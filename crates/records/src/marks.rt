@@ -1,9 +1,9 @@
 // The marks of records, and in one table how a record of each looks in bytes.
 ghost use mathlib.Core.Path.{_≡_};
 ghost use Prim.Native.Nat.{_<_, _≤_};
-ghost use lib.ListN.{length};
-ghost use Rattle.ledger.specs.Record.{ruleLayout, layout};
-ghost use Rattle.ledger.specs.Bytes.{hasLetters, markOf};
+ghost use lib.ListN.{length, take, drop};
+ghost use Rattle.ledger.specs.Record.{ruleLayout, layout, marks};
+ghost use Rattle.ledger.specs.Bytes.{hasLetters, firstOf, markOf};
 ghost use Rattle.records.specs.Marks.{ruleMarkOf, recordMarkOf, bearingOf, layoutOf};
 use session::state::Session;
 
@@ -19,6 +19,10 @@ pub enum RuleMark {
     Ti,
     Wk,
     Cl,
+    Ar,
+    Lf,
+    Su,
+    Sd,
 }
 
 pub enum RecordMark {
@@ -94,6 +98,10 @@ pub fn rule_layout(m: RuleMark) -> Layout
         RuleMark::Ti => fixed(b'T', b'I', 10),
         RuleMark::Wk => fixed(b'W', b'K', 6),
         RuleMark::Cl => counting(b'C', b'L', BEHIND_LETTERS, 1, Session::MOST_TERMS, 6),
+        RuleMark::Ar => counting(b'A', b'R', BEHIND_LETTERS, 1, Session::LONGEST_LINE, 2),
+        RuleMark::Lf => fixed(b'L', b'F', 6),
+        RuleMark::Su => fixed(b'S', b'U', 8),
+        RuleMark::Sd => fixed(b'S', b'D', 8),
     }
 }
 
@@ -119,10 +127,11 @@ fn has_letters(bytes: &[u8], m: RecordMark) -> bool
     false
 }
 
-// The mark that the bytes begin with.
-pub fn mark_of(bytes: &[u8]) -> Bearing
+// The mark of the table's first half that the bytes begin with. Of a walk through the whole table the compiler makes a loop, which is slow;
+// of one through a half it makes comparisons.
+fn mark_in_first_half(bytes: &[u8]) -> Bearing
     requires { ⌜ 2 ≤ length (now bytes) ⌝ }
-    ensures { λ r. ⌜ bearingOf r ≡ markOf (now (bytes .entry)) ⌝ }
+    ensures { λ r. ⌜ bearingOf r ≡ firstOf (now (bytes .entry)) (take 8 marks) ⌝ }
 {
     let marks = [
         RecordMark::Rule(RuleMark::Fm),
@@ -133,8 +142,30 @@ pub fn mark_of(bytes: &[u8]) -> Bearing
         RecordMark::Rule(RuleMark::Tr),
         RecordMark::Rule(RuleMark::Eq),
         RecordMark::Rule(RuleMark::Ti),
+    ];
+    let mut i: usize = 0;
+    while i < marks.len() {
+        let m = marks[i];
+        if has_letters(bytes, m) {
+            return Bearing::Bears(m);
+        }
+        i += 1;
+    }
+    Bearing::Unknown
+}
+
+// And of its second half.
+fn mark_in_second_half(bytes: &[u8]) -> Bearing
+    requires { ⌜ 2 ≤ length (now bytes) ⌝ }
+    ensures { λ r. ⌜ bearingOf r ≡ firstOf (now (bytes .entry)) (drop 8 marks) ⌝ }
+{
+    let marks = [
         RecordMark::Rule(RuleMark::Wk),
         RecordMark::Rule(RuleMark::Cl),
+        RecordMark::Rule(RuleMark::Ar),
+        RecordMark::Rule(RuleMark::Lf),
+        RecordMark::Rule(RuleMark::Su),
+        RecordMark::Rule(RuleMark::Sd),
         RecordMark::Op,
         RecordMark::Wd,
     ];
@@ -147,4 +178,16 @@ pub fn mark_of(bytes: &[u8]) -> Bearing
         i += 1;
     }
     Bearing::Unknown
+}
+
+// The mark that the bytes begin with.
+pub fn mark_of(bytes: &[u8]) -> Bearing
+    requires { ⌜ 2 ≤ length (now bytes) ⌝ }
+    ensures { λ r. ⌜ bearingOf r ≡ markOf (now (bytes .entry)) ⌝ }
+{
+    let found = mark_in_first_half(bytes);
+    if let Bearing::Bears(m) = found {
+        return Bearing::Bears(m);
+    }
+    mark_in_second_half(bytes)
 }

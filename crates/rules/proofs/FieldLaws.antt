@@ -1,6 +1,6 @@
 -- What the rules propose, from what they read: a record's fields, forms that are low enough for their literals, a test that fails or passes
 -- behind others; and FM and PM.
-use mathlib.Core.Path.{_≡_, refl, sym, ap, subst, _∙_}
+use mathlib.Core.Path.{_≡_, refl, sym, ap, ap₂, subst, _∙_}
 use mathlib.Core.Bool.{Bool, true, false}
 use mathlib.Core.List.{List, [], _∷_, _++_}
 use Prim.Native.Nat.{ℕ, _≤_, _<_}
@@ -9,10 +9,10 @@ use lib.Dec.{T, ltb→lt}
 use lib.IntN.{ℤ}
 use lib.ListN.{length, take}
 use Rattle.rows.specs.Row.{Row}
-use Rattle.rows.specs.Form.{Form, formOf, legal}
+use Rattle.rows.specs.Form.{Form, formOf, formAt, legal}
 use Rattle.rows.specs.Summable.{rowAt, Inside}
 use Rattle.ledger.specs.Limits.{mostForms}
-use Rattle.ledger.specs.Ledger.{Line, nthRow, newForm}
+use Rattle.ledger.specs.Ledger.{Line, nthForm, nthRow, newForm}
 use Rattle.ledger.specs.Record.{Rule, make, FM, PM}
 use Rattle.ledger.specs.Checks.{Check, _else_, formIn, bothAre, tests, makes}
 use Rattle.ledger.specs.Apply.{Finding, pass, fail, finding}
@@ -28,9 +28,8 @@ use Rattle.proposals.specs.declared.Proposal.the-variants.{Refused, Form as Mak
 use Rattle.proposals.specs.Proposing.{premiseFrom, Proposes}
 use Rattle.proposals.proofs.Making.{refusing, making}
 use Rattle.rules.specs.Read.{FormsHeld, formsIn, ProposesRule}
-use Rattle.rules.proofs.HeldLaws.{form-count, form-inside}
+use Rattle.rules.proofs.HeldLaws.{form-count, form-is, form-inside}
 use Rattle.rules.proofs.FindingWalk.{whole, past, fails, passes}
-use Rattle.rules.proofs.FormTests.{rows-tested}
 
 -- ---- tests in front of others
 
@@ -52,6 +51,15 @@ of-fields n many fs r xs ys e p = subst (λ (q : Rule). ProposesRule n many fs q
 module _ {n many : ℕ} {cells : List ℤ} (h : FormsHeld n many cells) where
   pub low-form : (f : ℕ) → T (formIn (formsIn n many cells) f) → f < mostForms
   low-form f i = omega (arith, ltb→lt f many (rw (form-count h) at i), h .few)
+
+  pub low-two : (a b : ℕ) (cs : List Check) {v : Finding}
+      → v ≡ finding ((formIn (formsIn n many cells) a else 8) ∷ (formIn (formsIn n many cells) b else 8) ∷ cs)
+      → v ≡ pass → (a < mostForms) × (b < mostForms)
+  low-two a b cs e p =
+      let q =
+      pass→passed ((formIn (formsIn n many cells) a else 8) ∷ (formIn (formsIn n many cells) b else 8) ∷ cs)
+      (sym e ∙ p) in
+      (low-form a (q .0), low-form b (q .1 .0))
 
   pub low-three : (a b c : ℕ) (cs : List Check) {v : Finding}
       → v ≡ finding ((formIn (formsIn n many cells) a else 8) ∷ (formIn (formsIn n many cells) b else 8) ∷ (formIn (formsIn n many cells) c else 8) ∷ cs)
@@ -79,12 +87,19 @@ module _ {n many : ℕ} {cells : List ℤ} (h : FormsHeld n many cells) (j k : �
   pub both-inside : Inside n cells a × Inside n cells b
   both-inside = (form-inside h a (both-below .0), form-inside h b (both-below .1))
 
-  -- the condition on their rows, or another test behind it, decides
+  -- the condition on them, or on their rows, decides
+
+  pub then-forms : {c : Bool} {w : Finding} (test : Form → Form → Bool) → c ≡ test (formAt n cells a) (formAt n cells b)
+      → w ≡ finding ((c else 11) ∷ [])
+      → w ≡ finding ((test (nthForm (formsIn n many cells) a) (nthForm (formsIn n many cells) b) else 11) ∷ [])
+  then-forms test g d =
+      let forms = ap₂ test (form-is h a (both-below .0)) (form-is h b (both-below .1)) in
+      d ∙ ap (λ (t : Bool). finding ((t else 11) ∷ [])) (g ∙ sym forms)
+
   pub then-rows : {c : Bool} {w : Finding} (test : Row → Row → Bool) → c ≡ test (rowAt n cells a) (rowAt n cells b)
       → w ≡ finding ((c else 11) ∷ [])
       → w ≡ finding ((test (nthRow (formsIn n many cells) a) (nthRow (formsIn n many cells) b) else 11) ∷ [])
-  then-rows {c} {w} test g d =
-      d ∙ ap (λ (t : Bool). finding ((t else 11) ∷ [])) (sym (rows-tested {h = h} {f = a} {g = b} {test = test} {r = c} (record { first = both-below .0; second = both-below .1; gave = g })))
+  then-rows test g d = then-forms (λ x y. test (x .row) (y .row)) g d
 
 -- ---- FM and PM
 

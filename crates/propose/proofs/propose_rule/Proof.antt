@@ -90,6 +90,30 @@ enum-told-10 c = search needs
 clash-requires : tie.Need-clash-requires
 clash-requires c κs = (c .before .before .before .before .before .before .before .before .before .before .pre .0 .form-table, counted-of (now (c .before .before .before .before .before .before .before .before .before .before .args .bytes)) (c .before .before .before .enum-told10 .given .1) (c .before .before .before .before .before .before .before .before .before .before .pre .1) refl, c .before .before .before .before .before .before .before .before .before .before .pre .0 .numbers, c .before .before .before .before .before .before .before .before .before .before .pre .0 .scratch)
 
+enum-told-11 : tie.Need-enum-told-11
+enum-told-11 c = search needs
+
+remainder-requires : tie.Need-remainder-requires
+remainder-requires c κs = (c .before .before .before .before .before .before .before .before .before .pre .0 .form-table, counted-of (now (c .before .before .before .before .before .before .before .before .before .args .bytes)) (c .before .before .enum-told11 .given .1) (c .before .before .before .before .before .before .before .before .before .pre .1) refl, c .before .before .before .before .before .before .before .before .before .pre .0 .scratch)
+
+enum-told-12 : tie.Need-enum-told-12
+enum-told-12 c = search needs
+
+loosening-requires : tie.Need-loosening-requires
+loosening-requires c κs = (c .before .before .before .before .before .before .before .before .before .pre .0 .form-table, fixed-of (now (c .before .before .before .before .before .before .before .before .before .args .bytes)) (c .before .before .enum-told12 .given .1) (c .before .before .before .before .before .before .before .before .before .pre .1) refl, c .before .before .before .before .before .before .before .before .before .pre .0 .scratch)
+
+enum-told-13 : tie.Need-enum-told-13
+enum-told-13 c = search needs
+
+scaling-up-requires : tie.Need-scaling-up-requires
+scaling-up-requires c κs = (c .before .before .before .before .before .before .before .before .before .pre .0 .form-table, fixed-of (now (c .before .before .before .before .before .before .before .before .before .args .bytes)) (c .before .before .enum-told13 .given .1) (c .before .before .before .before .before .before .before .before .before .pre .1) refl, c .before .before .before .before .before .before .before .before .before .pre .0 .scratch)
+
+enum-told-14 : tie.Need-enum-told-14
+enum-told-14 c = search needs
+
+scaling-down-requires : tie.Need-scaling-down-requires
+scaling-down-requires c κs = (c .before .before .before .before .before .before .before .before .before .pre .0 .form-table, fixed-of (now (c .before .before .before .before .before .before .before .before .before .args .bytes)) (c .before .before .enum-told14 .given .1) (c .before .before .before .before .before .before .before .before .before .pre .1) refl, c .before .before .before .before .before .before .before .before .before .pre .0 .scratch)
+
 same-length : tie.Need-same-length
 same-length c = search needs
 
@@ -180,6 +204,42 @@ same-length-20 c = search needs
 returns-10 : tie.Need-returns-10
 returns-10 c = rw (c .before .before .before .before .before .before .before .before .before .enum-told10 .given .1) (c .before .before .before .before .before .clash .ensures _ _ _)
 
+same-length-21 : tie.Need-same-length-21
+same-length-21 c = search needs
+
+same-length-22 : tie.Need-same-length-22
+same-length-22 c = search needs
+
+returns-11 : tie.Need-returns-11
+returns-11 c = rw (c .before .before .before .before .before .before .before .enum-told11 .given .1) (c .before .before .before .before .remainder .ensures _ _ _)
+
+same-length-23 : tie.Need-same-length-23
+same-length-23 c = search needs
+
+same-length-24 : tie.Need-same-length-24
+same-length-24 c = search needs
+
+returns-12 : tie.Need-returns-12
+returns-12 c = rw (c .before .before .before .before .before .before .before .enum-told12 .given .1) (c .before .before .before .before .loosening .ensures _ _)
+
+same-length-25 : tie.Need-same-length-25
+same-length-25 c = search needs
+
+same-length-26 : tie.Need-same-length-26
+same-length-26 c = search needs
+
+returns-13 : tie.Need-returns-13
+returns-13 c = rw (c .before .before .before .before .before .before .before .enum-told13 .given .1) (c .before .before .before .before .scaling-up .ensures _ _)
+
+same-length-27 : tie.Need-same-length-27
+same-length-27 c = search needs
+
+same-length-28 : tie.Need-same-length-28
+same-length-28 c = search needs
+
+returns-14 : tie.Need-returns-14
+returns-14 c = rw (c .before .before .before .before .before .before .before .enum-told14 .given .1) (c .before .before .before .before .scaling-down .ensures _ _)
+
 pub propose-rule-spec : {M : Type 1} → statement M
 propose-rule-spec =
     tie.close
@@ -210,6 +270,14 @@ propose-rule-spec =
     weakening-requires
     enum-told-10
     clash-requires
+    enum-told-11
+    remainder-requires
+    enum-told-12
+    loosening-requires
+    enum-told-13
+    scaling-up-requires
+    enum-told-14
+    scaling-down-requires
     same-length
     returns
     same-length-2
@@ -239,4 +307,16 @@ propose-rule-spec =
     same-length-18
     same-length-19
     same-length-20
-    returns-10)
+    returns-10
+    same-length-21
+    same-length-22
+    returns-11
+    same-length-23
+    same-length-24
+    returns-12
+    same-length-25
+    same-length-26
+    returns-13
+    same-length-27
+    same-length-28
+    returns-14)

@@ -1,60 +1,39 @@
--- `mark_of` meets its contract. The loop's invariant: the bytes bear none of the marks passed, so the rest of the marks decide.
-use mathlib.Core.Path.{refl, sym, _∙_}
-use Prim.Native.Nat.{_-_}
-use native.Mathlib.Omega.{arith}
+-- `mark_of` meets its contract: what the first half knows, or else what the second does.
+use Rattle.records.proofs.MarkLaws.{found-first, found-second}
 use borrow.Author.Needs.{needs}
-use lib.ListN.{length}
-use Rattle.ledger.specs.Bytes.{markOf}
-use Rattle.records.proofs.MarkLaws.{Seeking, borne, not-borne, none-borne}
 use Rattle.records.proofs.marks.mark_of.Statement.{statement}
 use Rattle.records.proofs.marks.mark_of.Tie as tie
 
-abbrev Inv-loop : tie.InvT-loop
-Inv-loop bytes marks i₀ i = Seeking bytes marks i
+mark-in-first-half-requires : tie.Need-mark-in-first-half-requires
+mark-in-first-half-requires c κs = search needs
 
-abbrev μ-loop : tie.MeasureT-loop
-μ-loop bytes marks i₀ i = length marks - i
+enum-known-found : tie.Need-enum-known-found
+enum-known-found c = search needs
 
-loop-holds : tie.Need-loop-holds Inv-loop μ-loop
-unfolding markOf
-loop-holds c = record { within = omega arith; rest = refl }
+returns : tie.Need-returns
+returns c =
+    let h = c .before .before .before in
+    found-first (h .before .before .args .bytes .now) 8 (h .mark-in-first-half .result) (h .mark-in-first-half .ensures) (c .before .found .given .1)
 
-mul-m : tie.Need-mul-m Inv-loop μ-loop
-mul-m c = search needs
+enum-told : tie.Need-enum-told
+enum-told c = search needs
 
-array-copy-out-m : tie.Need-array-copy-out-m Inv-loop μ-loop
-array-copy-out-m c = search needs
+mark-in-second-half-requires : tie.Need-mark-in-second-half-requires
+mark-in-second-half-requires c κs = search needs
 
-has-letters-requires : tie.Need-has-letters-requires Inv-loop μ-loop
-has-letters-requires c κs = search needs
-
-returns : tie.Need-returns Inv-loop μ-loop
-returns c = borne (c .before .before .before .before .loop .inv) _ (omega arith) (sym (c .before .has-letters .ensures) ∙ c .if1 .taken)
-
-add-i : tie.Need-add-i Inv-loop μ-loop
-add-i c = search needs
-
-loop-less : tie.Need-loop-less Inv-loop μ-loop
-loop-less c = search needs
-
-loop-again : tie.Need-loop-again Inv-loop μ-loop
-loop-again c = not-borne (c .before .before .before .before .loop .inv) _ (omega arith) (sym (c .before .has-letters .ensures) ∙ c .if1 .left)
-
-returns-2 : tie.Need-returns-2 Inv-loop μ-loop
-returns-2 c = none-borne (c .before .loop .inv) (omega arith)
+returns-2 : tie.Need-returns-2
+returns-2 c =
+    let h = c .before .before .before in
+    found-second (h .before .before .args .bytes .now) 8 (h .mark-in-first-half .result) (h .mark-in-first-half .ensures)
+    (c .mark-in-second-half .result) (c .before .enum-told .given .1) (c .mark-in-second-half .ensures)
 
 pub mark-of-spec : {M : Type 1} → statement M
 mark-of-spec =
     tie.close
     (tie.spec
-    Inv-loop
-    μ-loop
-    loop-holds
-    mul-m
-    array-copy-out-m
-    has-letters-requires
+    mark-in-first-half-requires
+    enum-known-found
     returns
-    add-i
-    loop-less
-    loop-again
+    enum-told
+    mark-in-second-half-requires
     returns-2)

@@ -63,6 +63,30 @@ enum-told-10 c = search needs
 counting-requires-3 : tie.Need-counting-requires-3
 counting-requires-3 c κs = search needs
 
+enum-told-11 : tie.Need-enum-told-11
+enum-told-11 c = search needs
+
+counting-requires-4 : tie.Need-counting-requires-4
+counting-requires-4 c κs = search needs
+
+enum-told-12 : tie.Need-enum-told-12
+enum-told-12 c = search needs
+
+fixed-requires-8 : tie.Need-fixed-requires-8
+fixed-requires-8 c κs = search needs
+
+enum-told-13 : tie.Need-enum-told-13
+enum-told-13 c = search needs
+
+fixed-requires-9 : tie.Need-fixed-requires-9
+fixed-requires-9 c κs = search needs
+
+enum-told-14 : tie.Need-enum-told-14
+enum-told-14 c = search needs
+
+fixed-requires-10 : tie.Need-fixed-requires-10
+fixed-requires-10 c κs = search needs
+
 returns : tie.Need-returns
 returns c = rw (c .before .enum-told .given .1) (c .fixed .ensures)
 
@@ -93,6 +117,18 @@ returns-9 c = rw (c .before .enum-told9 .given .1) (c .fixed7 .ensures)
 returns-10 : tie.Need-returns-10
 returns-10 c = rw (c .before .enum-told10 .given .1) (c .counting3 .ensures)
 
+returns-11 : tie.Need-returns-11
+returns-11 c = rw (c .before .enum-told11 .given .1) (c .counting4 .ensures)
+
+returns-12 : tie.Need-returns-12
+returns-12 c = rw (c .before .enum-told12 .given .1) (c .fixed8 .ensures)
+
+returns-13 : tie.Need-returns-13
+returns-13 c = rw (c .before .enum-told13 .given .1) (c .fixed9 .ensures)
+
+returns-14 : tie.Need-returns-14
+returns-14 c = rw (c .before .enum-told14 .given .1) (c .fixed10 .ensures)
+
 pub rule-layout-spec : {M : Type 1} → statement M
 rule-layout-spec =
     tie.close
@@ -117,6 +153,14 @@ rule-layout-spec =
     fixed-requires-7
     enum-told-10
     counting-requires-3
+    enum-told-11
+    counting-requires-4
+    enum-told-12
+    fixed-requires-8
+    enum-told-13
+    fixed-requires-9
+    enum-told-14
+    fixed-requires-10
     returns
     returns-2
     returns-3
@@ -126,4 +170,8 @@ rule-layout-spec =
     returns-7
     returns-8
     returns-9
-    returns-10)
+    returns-10
+    returns-11
+    returns-12
+    returns-13
+    returns-14)

@@ -548,7 +548,7 @@ byMark =
     ∷ (lfBytes 5 6 gives refuses 11)
     ∷ (lfBytes 2 5 gives refuses 11)
     ∷ (lfBytes 5 4 gives refuses 11)
-    -- 4 divides x where 12 divides 3x, and the other way round
+    -- 12 divides 3x where 4 divides x, and the other way round
     ∷ (suBytes 2 7 3 gives makesLine 0 2 (5 ∷ 14 ∷ []))
     ∷ (sdBytes 2 7 3 gives makesLine 0 2 (4 ∷ 15 ∷ []))
     ∷ (suBytes 16 17 257 gives makesLine 0 2 (33 ∷ 34 ∷ []))

@@ -20,8 +20,8 @@ use Rattle.session.specs.declared.answers.Verdict.{Verdict}
 use Rattle.session.specs.declared.answers.Verdict.the-variants.{Pass, Fail}
 use Rattle.literals.specs.Sorting.{sorted}
 use Rattle.literals.proofs.Filler.{front}
-use Rattle.literals.proofs.SortLaws.{sorted-line, length-sorted}
-use Rattle.ledger.proofs.LiteralLaws.{different-unnegated}
+use Rattle.literals.proofs.SortLaws.{sorted-line}
+use Rattle.ledger.proofs.LiteralLaws.{different-unnegated, length-lineOf-different}
 use Rattle.session.specs.declared.answers.Refusal.{Refusal}
 use Rattle.proposals.specs.declared.NewLine.{NewLine}
 use Rattle.proposals.specs.declared.Proposal.{Proposal}
@@ -93,9 +93,10 @@ pub unnegated-made : {v : Verdict} (picks xs out ys more : List ℕ) → v ≡ P
     → ProposesBy v (derivedLine (lineOf (map unnegated picks))) (Makes (derivedFrom 0 (length picks))) xs (ys ++ more)
 unnegated-made picks xs out ys more e differ d o =
     let plain : map (λ f. 2 * f + 0) picks ≡ map unnegated picks = ap (λ (f : ℕ → ℕ). map f picks) (λ i f. add-zero (2 * f) i) in
-    let all-sorted : ys ≡ sorted (map unnegated picks) = o ∙ ap sorted (rw sub-zero (d ∙ plain)) in
-    let many : length picks ≡ length ys = sym (ap length all-sorted ∙ length-sorted (map unnegated picks) ∙ length-map picks unnegated) in
+    let line = map unnegated picks in
+    let apart = different-unnegated picks differ in
+    let made : ys ≡ lineOf line = o ∙ ap sorted (rw sub-zero (d ∙ plain)) ∙ sorted-line line apart in
+    let many : length picks ≡ length ys = sym (ap length made ∙ length-lineOf-different line apart ∙ length-map picks unnegated) in
     let (w, b) = front ys more (ys ++ more) (length picks) many refl in
-    derived-by (derivedFrom 0 (length picks)) xs (ys ++ more) (lineOf (map unnegated picks)) e refl
-    (rw sub-zero at b ∙ all-sorted ∙ sorted-line (map unnegated picks) (different-unnegated picks differ))
+    derived-by (derivedFrom 0 (length picks)) xs (ys ++ more) (lineOf line) e refl (rw sub-zero at b ∙ made)
     (record { first = omega arith; second = w })

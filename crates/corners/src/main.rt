@@ -1,4 +1,6 @@
 // Runs the sum of rows at the corners of what it takes, and just outside them, and prints what it reaches.
+#![tactic(auto)]
+
 ghost use Rattle.std.specs.Prelude.{◌<◌};
 
 use libc::STDOUT_FILENO;

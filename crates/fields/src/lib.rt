@@ -1,4 +1,6 @@
 // The fields of a record whose shape is right, to what is lent for them.
+#![tactic(auto)]
+
 ghost use Rattle.std.specs.Prelude.{◌≡◌, ◌+◌, length};
 ghost use Rattle.ledger.specs.Limits.{carried, longest_line};
 ghost use Rattle.ledger.specs.Record.{fm, rule_layout};

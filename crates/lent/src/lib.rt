@@ -1,4 +1,6 @@
 // Feed with the session lent to it and altered there, over the call that takes the session by value; and a call from a value, which lends it.
+#![tactic(auto)]
+
 ghost use Rattle.session.specs.Cells.{as_lent, as_left};
 ghost use Rattle.checker.specs.Feed.{Feeds};
 

@@ -1,4 +1,6 @@
 // The order test: one way through the named cells, given up at the first cell that breaks the order. And the standing, which needs it.
+#![tactic(auto)]
+
 mod cells;
 mod levels;
 pub mod standing;

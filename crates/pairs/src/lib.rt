@@ -1,5 +1,7 @@
 // The rules on two or three forms: TO, TR, EQ, TI and WK. Each reads its fields, tests that the forms are in force and of their kinds, and
 // then its own condition on rows.
+#![tactic(auto)]
+
 ghost use Rattle.std.specs.Prelude.{◌≡◌, length};
 ghost use Rattle.rows.specs.Limits.{unknowns};
 ghost use Rattle.ledger.specs.Record.{TO, TR, EQ, TI, WK, to, tr, eq, ti, wk, rule_layout};

@@ -1,4 +1,6 @@
 // A proof file that is judged in pieces, each of them in one buffer behind what the piece before it left unread.
+#![tactic(auto)]
+
 ghost use Rattle.std.specs.Prelude.{◌≡◌, ◌≤◌, length, take, drop};
 ghost use Rattle.session.specs.Answers.{finding_of};
 ghost use Rattle.session.specs.Cells.{as_lent, as_left};

@@ -1,4 +1,6 @@
 // What the checker's calls answer, printed for the programs: each answer is a line of words and numbers.
+#![tactic(auto)]
+
 use libc::STDOUT_FILENO;
 use session::answers::{Answer, Made, Refusal, Standing, Start, Verdict, number};
 

@@ -1,5 +1,7 @@
 // What a record proposes: a refusal, a form, a line, a level more or a level less. Later fields of a line get their default here, so that a
 // rule that has nothing to say of one never names it.
+#![tactic(auto)]
+
 pub mod derived;
 
 ghost use Rattle.std.specs.Prelude.{◌≡◌};

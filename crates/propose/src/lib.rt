@@ -1,5 +1,7 @@
 // What a record proposes: by its mark, on counts and tables that are only read. What is written is only what the caller lends for
 // the form's cells and the two lists of literals.
+#![tactic(auto)]
+
 ghost use Rattle.std.specs.Prelude.{take};
 ghost use Rattle.rows.specs.Limits.{unknowns};
 ghost use Rattle.ledger.specs.Record.{make, of_rule};

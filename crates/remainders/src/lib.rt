@@ -1,5 +1,7 @@
 // The rules on divides forms: AR, LF, SU and SD. Of as many neighbours as the divisor says one is divided; a divisor of the divisor divides;
 // and a factor of row and divisor may be put in or taken out.
+#![tactic(auto)]
+
 ghost use Rattle.std.specs.Prelude.{◌≡◌, ◌≤◌, length};
 ghost use Rattle.rows.specs.Limits.{unknowns};
 ghost use Rattle.ledger.specs.Limits.{longest_line};

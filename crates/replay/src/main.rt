@@ -1,4 +1,6 @@
 // Replays proof files: standard input, or each file that is named, is judged record by record, and what came of it is printed.
+#![tactic(auto)]
+
 mod file;
 mod input;
 mod say;

@@ -1,4 +1,6 @@
 // RS: what each parent leaves without its literal of the pivot is gathered out of the pool; both, joined, are the line.
+#![tactic(auto)]
+
 ghost use Rattle.std.specs.Prelude.{◌≡◌, ◌≤◌, ◌<◌, length};
 ghost use Rattle.ledger.specs.Limits.{most_forms, longest_line};
 ghost use Rattle.session.specs.Cells.{literals_at};

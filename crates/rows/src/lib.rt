@@ -1,5 +1,7 @@
 // What rows and forms are, and the laws of the arithmetic on them. The crates above work on lent cells; here are only the numbers that they
 // share, and what a sum of rows reaches.
+#![tactic(auto)]
+
 #[derive(Drop)]
 pub enum Reached {
     // The lowest unknown whose sum is no multiple of the modulus, with that sum.

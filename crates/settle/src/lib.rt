@@ -1,4 +1,6 @@
 // One place settles what a record proposes: it tests the room, and writes. After the start no cell is written from elsewhere.
+#![tactic(auto)]
+
 ghost use Rattle.std.specs.Prelude.{◌≡◌, ◌-◌, ◌≤◌, ◌<◌, length};
 ghost use Rattle.rows.specs.Limits.{unknowns};
 ghost use Rattle.ledger.specs.Limits.{most_levels};

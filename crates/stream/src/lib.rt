@@ -1,4 +1,6 @@
 // A stream of records: fed from its front until it ends or a record is refused.
+#![tactic(auto)]
+
 ghost use Rattle.std.specs.Prelude.{◌≡◌, length};
 ghost use Rattle.rows.specs.Limits.{unknowns, most_terms};
 ghost use Rattle.ledger.specs.Split.{records_of};

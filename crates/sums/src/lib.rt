@@ -1,4 +1,6 @@
 // The sum of picked rows, each its multiplier times, over a modulus: of modulus 0 only 0 is a multiple.
+#![tactic(auto)]
+
 ghost use Rattle.std.specs.Prelude.{◌≡◌, ◌+◌, ◌<◌};
 ghost use Rattle.rows.specs.Limits.{unknowns};
 ghost use Rattle.rows.specs.Row.{plus, scaled};

@@ -1,4 +1,6 @@
 // The rules on sums: FK and CL. Both read their terms, test forms, kinds and multipliers, and then what the sum reaches.
+#![tactic(auto)]
+
 ghost use Rattle.std.specs.Prelude.{◌≡◌, length};
 ghost use Rattle.ints.specs.Tests.{all};
 ghost use Rattle.rows.specs.Limits.{unknowns, most_terms};

@@ -1,5 +1,7 @@
 // A session with room for its three tables, all by value: what is done to a copy is seen in that copy alone. The programs that try the library
 // work on it.
+#![tactic(auto)]
+
 ghost use Rattle.std.specs.Prelude.{◌≤◌};
 
 use printing::print;

@@ -1,4 +1,6 @@
 // One way through the lines between two marks and the literals of each, left at the first cell that breaks the order.
+#![tactic(auto)]
+
 ghost use Rattle.walk.specs.Walk.{Exactly, LinesGood, Stretch};
 
 use session::state::{Mark, Session};

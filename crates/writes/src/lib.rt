@@ -1,4 +1,6 @@
 // The three writes: one form more, one line more, and cells that become 0. After the start nothing else changes a table.
+#![tactic(auto)]
+
 ghost use Rattle.std.specs.Prelude.{◌≡◌, ◌≤◌, length};
 ghost use Rattle.rows.specs.Limits.{unknowns};
 ghost use Rattle.ledger.specs.Literals.{joined};

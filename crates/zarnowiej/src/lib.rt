@@ -1,6 +1,8 @@
 // The four calls for programs in C and Rust. A slice crosses as an address and a count of cells, sessions and answers as the plain structs of
 // plain.rt, which say what their numbers mean. Each call has the contract of the call that it stands for, through the translation of
 // specs/Crossing.antt, and asks nothing of its caller: any lengths, any cells, any session and any bytes are answered.
+#![tactic(auto)]
+
 mod plain;
 
 ghost use Rattle.session.specs.Cells.{as_lent, as_left};

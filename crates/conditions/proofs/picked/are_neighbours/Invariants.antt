@@ -1,0 +1,28 @@
+-- `conditions::picked::are_neighbours` meets its contract. The loop's invariant: the test of the rows from place i on is the test of all.
+use mathlib.Core.Path.{◌≡◌, sym, ap, ◌∙◌}
+use mathlib.Core.Bool.{Bool, ◌&&◌}
+use mathlib.Core.List.{map}
+use Prim.Native.Nat.{◌+◌, ◌-◌, ◌≤◌}
+use native.Mathlib.Omega.{arith}
+use borrow.Author.Tests.{not-true, not-false}
+use lib.IntN.{ℤ, pos}
+use mir.Syntax.{w32}
+use mir.Val.{SFits}
+use mir.ValLaws.{to_z-of_z}
+use lib.ListN.{length, get_or, drop}
+use Rattle.rows.specs.Limits.{unknowns}
+use Rattle.rows.specs.Summable.{row_at}
+use Rattle.rows.specs.Conditions.{same_row, neighbours_from, neighbours}
+use Rattle.rows.specs.Row.{shifted}
+use Rattle.rows.proofs.RowLaws.{scaled_one}
+use Rattle.rows.proofs.Remainders.{neighbours-all, neighbours-step, neighbours_over}
+use borrow.Author.Rules.{rules, sfits_of}
+use Rattle.conditions.proofs.picked.are_neighbours.Given as goal
+
+abbrev pub invariant-loop-i : goal.invariant-loop-i
+invariant-loop-i l =
+    let row = row_at unknowns l.table in
+    (1 ≤ l.i) × (l.i ≤ length l.picks) × (neighbours_from l.i (row l.first) (map row (drop l.i l.picks)) ≡ neighbours (map row l.picks))
+
+abbrev pub decreases-loop-i : goal.decreases-loop-i
+decreases-loop-i l = length l.picks - l.i

@@ -1,0 +1,11 @@
+-- `contents::cells::kind` meets its contract.
+use mathlib.Core.Path.{◌∙◌}
+use borrow.Author.Rules.{rules, sfits_of}
+use mir.Syntax.{w32}
+use mir.ValLaws.{to_z-of_z}
+use Rattle.rows.specs.Limits.{unknowns}
+use Rattle.rows.proofs.FormCells.{kind_at}
+use Rattle.contents.proofs.cells.kind.Goals as goal
+
+pub returns : goal.returns
+returns c = let a = c.args in to_z-of_z w32 _ (sfits_of c.result-1.given) ∙ kind_at unknowns a.table.now a.f

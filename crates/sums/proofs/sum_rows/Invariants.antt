@@ -1,0 +1,24 @@
+-- `sums::sum_rows` meets its contract. Invariant: the terms from i on, added to the sums so far, give the whole sum.
+use mathlib.Core.Path.{◌≡◌, refl, sym, ◌∙◌}
+use Prim.Native.Nat.{◌+◌, ◌*◌, ◌-◌, ◌≤◌}
+use native.Mathlib.Omega.{arith}
+use borrow.Author.Rules.{rules, sfits_of}
+use lib.IntN.{pos}
+use lib.ListN.{length, get_or, drop}
+use mir.Syntax.{w32}
+use mir.Val.{SFits}
+use mir.ValLaws.{to_z-of_z}
+use Rattle.rows.specs.Limits.{unknowns}
+use Rattle.rows.specs.Row.{plus, scaled}
+use Rattle.rows.specs.Summable.{row_at}
+use Rattle.rows.specs.Summable.{terms}
+use Rattle.rows.specs.Sum.{summed_onto, summed}
+use Rattle.rows.proofs.TermLaws.{summand_at}
+use Rattle.rows.proofs.SumLaws.{Within, largest_term, within-zeros, grown, room, length_grown, sum_step, sum_over}
+use Rattle.sums.proofs.sum_rows.Given as goal
+
+abbrev pub invariant-loop-i : goal.invariant-loop-i
+invariant-loop-i l = (l.i ≤ length l.picks) × (length l.sums ≡ unknowns + 1) × Within (l.i * largest_term) l.sums × (summed_onto (row_at unknowns l.table) l.sums (terms (drop l.i l.picks) (drop l.i l.multipliers)) ≡ summed unknowns (row_at unknowns l.table) (terms l.picks l.multipliers))
+
+abbrev pub decreases-loop-i : goal.decreases-loop-i
+decreases-loop-i l = length l.picks - l.i

@@ -1,0 +1,24 @@
+-- `sums::summable::is_summable` meets its contract. The loop's invariant: the test of the terms from i on is the test of all.
+use mathlib.Core.Path.{◌≡◌, sym, ap, ◌∙◌}
+use mathlib.Core.Bool.{◌&&◌}
+use Prim.Native.Nat.{◌+◌, ◌-◌, ◌≤◌}
+use native.Mathlib.Omega.{arith}
+use borrow.Author.Rules.{rules, sfits_of}
+use borrow.Author.Tests.{not-true, not-false}
+use lib.IntN.{ℤ, pos}
+use lib.ListN.{length, get_or, drop, drop_of_length-le}
+use mir.Syntax.{w32}
+use mir.ValLaws.{to_z-of_z}
+use Rattle.ints.specs.Tests.{all}
+use Rattle.rows.specs.Limits.{unknowns}
+use Rattle.rows.specs.Summable.{terms, summand, summable}
+use Rattle.rows.proofs.TermLaws.{term, next-term, summable-is, not-summable}
+use Rattle.sums.proofs.summable.is_summable.Given as goal
+
+abbrev pub invariant-loop-i : goal.invariant-loop-i
+invariant-loop-i l =
+    (l.i ≤ length l.picks)
+    × (all (summand unknowns l.table) (terms (drop l.i l.picks) (drop l.i l.multipliers)) ≡ summable unknowns l.table l.picks l.multipliers)
+
+abbrev pub decreases-loop-i : goal.decreases-loop-i
+decreases-loop-i l = length l.picks - l.i

@@ -1,6 +1,6 @@
 -- The record at the front of some bytes, with more bytes behind them: it is there whole, or misshapen whatever follows, or it takes more bytes to
 -- tell, and then they are fewer than the longest record has.
-use mathlib.Core.Path.{◌≡◌, refl, sym, ◌∙◌}
+use mathlib.Core.Path.{subst, ◌≡◌, refl, sym, ◌∙◌}
 use mathlib.Core.Bool.{Bool, true, false}
 use mathlib.Core.List.{List, [], ◌∷◌, ◌++◌, append-nil}
 use Prim.Native.Nat.{ℕ, ◌≤◌, ◌<◌}
@@ -129,6 +129,10 @@ module _ (n : ℕ) (l : Ledger) where
   unfolding apply_bytes
   three_is_short b e = elim (cut b) [
     | whole p h same ↦ absurd (apply-beyond n l (decode (front_record b)) (rw p at e))
-    | wrong j f p ↦ let q = failed n l (front_record b) (rw append-nil at (p [])) in absurd (f (cc))
+    | wrong j f p ↦
+      let Failed : List ℕ → Type 0 = λ (x : List ℕ). finding (shape (front_record x)) ≡ fail j in
+      let here : Failed b = subst Failed (append-nil b) (p []) in
+      let q = failed n l (front_record b) here in
+      absurd (f (cc))
     | short p h ↦ h
   ]

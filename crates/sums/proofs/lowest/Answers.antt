@@ -18,12 +18,12 @@ use Rattle.sums.proofs.lowest.Goals as goal
 
 pub is_multiple-requires : goal.is_multiple-requires
 is_multiple-requires c =
-    let sums = c.args.t1 in
+    let sums = c.args.sums in
     rw (to_z-of_z w64 (get_or sums (c.loop-k.k + 1) (pos 0)) (sfits_of c.s-1.given)) (c.requires.small (c.loop-k.k + 1))
 
 pub returns-then-not-is_multiple : goal.returns-then-not-is_multiple
 returns-then-not-is_multiple c =
-    let sums = c.args.t1 in
+    let sums = c.args.sums in
     let d = to_z w32 (of_z w32 c.args.modulus) in
     let k = c.loop-k.k in
     let e = to_z-of_z w64 (get_or sums (k + 1) (pos 0)) (sfits_of c.s-1.given) in
@@ -35,7 +35,7 @@ returns-then-not-is_multiple c =
 
 pub loop-k-preserved : goal.loop-k-preserved
 loop-k-preserved c =
-    let sums = c.args.t1 in
+    let sums = c.args.sums in
     let d = to_z w32 (of_z w32 c.args.modulus) in
     let k = c.loop-k.k in
     let e = to_z-of_z w64 (get_or sums (k + 1) (pos 0)) (sfits_of c.s-1.given) in (
@@ -46,7 +46,7 @@ loop-k-preserved c =
 
 pub returns : goal.returns
 returns c =
-    let sums = c.args.t1 in
+    let sums = c.args.sums in
     let d = to_z w32 (of_z w32 c.args.modulus) in
     ap Constant (to_z-of_z w64 (get_or sums 0 (pos 0)) (sfits_of c.result-1.given))
     ∙ lowest_over d (get_or sums 0 (pos 0)) sums c.loop-k.k (omega arith)

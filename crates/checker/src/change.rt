@@ -1,7 +1,7 @@
 // What a record that bears a mark changes, for every call that takes records.
 ghost use Rattle.std.specs.Prelude.{◌≡◌, length};
 ghost use Rattle.rows.specs.Limits.{unknowns, most_terms};
-ghost use Rattle.session.specs.Cells.{as_given, as_lent, as_left};
+ghost use Rattle.session.specs.Cells.{tables};
 ghost use Rattle.records.specs.Marks.{record_mark_of, OfMark};
 ghost use Rattle.proposals.specs.Proposing.{Scratch};
 ghost use Rattle.settle.specs.Settling.{Seen};
@@ -23,8 +23,8 @@ pub fn change_of(
     first: &mut [u16],
     second: &mut [u16],
 ) -> Change
-    requires { Seen unknowns top (as_given forms pool lines) × OfMark bytes.now (record_mark_of m) × (length cells.old ≡ most_terms) × Scratch first.old second.old }
-    ensures { Changes unknowns top (as_lent forms pool lines) bytes.now result (as_left forms pool lines) }
+    requires { Seen unknowns top (tables forms.old pool.old lines.old) × OfMark bytes.now (record_mark_of m) × (length cells.old ≡ most_terms) × Scratch first.old second.old }
+    ensures { Changes unknowns top (tables forms.old pool.old lines.old) bytes.now result (tables forms.new pool.new lines.new) }
 {
     let counts = top.counts;
     let p = propose::propose(counts, forms, pool, lines, bytes, m, cells, first, second);

@@ -1,7 +1,7 @@
 // One record, of any bytes, on any session and any tables.
 ghost use Rattle.std.specs.Prelude.{◌≡◌};
 ghost use Rattle.rows.specs.Limits.{unknowns};
-ghost use Rattle.session.specs.Cells.{as_given, as_lent, as_left};
+ghost use Rattle.session.specs.Cells.{tables};
 ghost use Rattle.laid.specs.Held.{Held};
 ghost use Rattle.checker.specs.Feed.{result_of, stepped, Feeds};
 
@@ -13,8 +13,8 @@ use settle::Top;
 
 // Any bytes, on tables that are cut to their named cells and in order.
 fn step(s: Session, forms: &mut [i32], pool: &mut [u16], lines: &mut [u16], bytes: &[u8]) -> Fed
-    requires { Held unknowns s (as_given forms pool lines) }
-    ensures { result_of result (as_left forms pool lines) ≡ stepped unknowns s (as_lent forms pool lines) bytes.now }
+    requires { Held unknowns s (tables forms.old pool.old lines.old) }
+    ensures { result_of result (tables forms.new pool.new lines.new) ≡ stepped unknowns s (tables forms.old pool.old lines.old) bytes.now }
 {
     match records::shape::read_shape(bytes) {
         Shape::Wrong(why) => crate::keep::refuse(s, why),
@@ -49,7 +49,7 @@ fn step(s: Session, forms: &mut [i32], pool: &mut [u16], lines: &mut [u16], byte
 
 // The session is given by value and comes back; the tables are lent. Whatever they hold, nothing has to be tested first.
 pub fn feed(s: Session, forms: &mut [i32], pool: &mut [u16], lines: &mut [u16], bytes: &[u8]) -> Fed
-    ensures { Feeds s (as_lent forms pool lines) bytes.now result (as_left forms pool lines) }
+    ensures { Feeds s (tables forms.old pool.old lines.old) bytes.now result (tables forms.new pool.new lines.new) }
 {
     let verdict = order::entered(s, forms, pool, lines);
     if let Verdict::Fail(why) = verdict {

@@ -9,7 +9,7 @@ use session::answers::{Answer, Refusal};
 use session::state::Session;
 
 // The session afterwards, and the answer.
-#[derive(Drop)]
+#[derive(Clone, Copy)]
 pub struct Fed {
     pub session: Session,
     pub answer: Answer,

@@ -1,7 +1,7 @@
 // Feed with the session lent to it and altered there, over the call that takes the session by value; and a call from a value, which lends it.
 #![tactic(auto)]
 
-ghost use Rattle.session.specs.Cells.{as_lent, as_left};
+ghost use Rattle.session.specs.Cells.{tables};
 ghost use Rattle.checker.specs.Feed.{Feeds};
 
 use checker::keep::Fed;
@@ -16,7 +16,7 @@ pub fn feed_lent(
     lines: &mut [u16],
     bytes: &[u8],
 ) -> Answer
-    ensures { Feeds session.entry.now (as_lent forms pool lines) bytes.now (record { session = session.exit.now; answer = result }) (as_left forms pool lines) }
+    ensures { Feeds session.old (tables forms.old pool.old lines.old) bytes.now (record { session = session.new; answer = result }) (tables forms.new pool.new lines.new) }
 {
     let before = *session;
     let fed = checker::feed::feed(before, forms, pool, lines, bytes);
@@ -33,7 +33,7 @@ pub fn feed_by_lending(
     lines: &mut [u16],
     bytes: &[u8],
 ) -> Fed
-    ensures { Feeds s (as_lent forms pool lines) bytes.now result (as_left forms pool lines) }
+    ensures { Feeds s (tables forms.old pool.old lines.old) bytes.now result (tables forms.new pool.new lines.new) }
 {
     let mut session = s;
     let answer = feed_lent(&mut session, forms, pool, lines, bytes);

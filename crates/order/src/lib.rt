@@ -8,7 +8,7 @@ pub mod standing;
 ghost use Rattle.std.specs.Prelude.{◌≡◌, ◌*◌};
 ghost use Rattle.rows.specs.Limits.{unknowns};
 ghost use Rattle.session.specs.Parts.{Sized, Long};
-ghost use Rattle.session.specs.Cells.{named, as_given, as_lent};
+ghost use Rattle.session.specs.Cells.{named, tables};
 ghost use Rattle.session.specs.InOrder.{order};
 ghost use Rattle.session.specs.Parts.{all_pass};
 ghost use Rattle.session.specs.Answers.{finding_of};
@@ -37,8 +37,8 @@ fn counts_hold(s: Session) -> bool
 
 // The whole test, over the named cells.
 fn ordered(s: Session, forms: &[i32], pool: &[u16], lines: &[u16]) -> bool
-    requires { Sized unknowns (as_given forms pool lines) }
-    ensures { result ≡ all_pass (order unknowns s (as_lent forms pool lines)) }
+    requires { Sized unknowns (tables forms.now pool.now lines.now) }
+    ensures { result ≡ all_pass (order unknowns s (tables forms.now pool.now lines.now)) }
 {
     if !counts_hold(s) {
         return false;
@@ -67,8 +67,8 @@ fn ordered(s: Session, forms: &[i32], pool: &[u16], lines: &[u16]) -> bool
 
 // Whether session and tables are in order; of longer tables the excess is not read.
 fn in_order(s: Session, forms: &[i32], pool: &[u16], lines: &[u16]) -> bool
-    requires { Long unknowns (as_given forms pool lines) }
-    ensures { result ≡ all_pass (order unknowns s (named unknowns (as_lent forms pool lines))) }
+    requires { Long unknowns (tables forms.now pool.now lines.now) }
+    ensures { result ≡ all_pass (order unknowns s (named unknowns (tables forms.now pool.now lines.now))) }
 {
     ordered(
         s,
@@ -80,7 +80,7 @@ fn in_order(s: Session, forms: &[i32], pool: &[u16], lines: &[u16]) -> bool
 
 // What every call tests first: the sizes of the tables, and then that session and tables are in order.
 pub fn entered(s: Session, forms: &[i32], pool: &[u16], lines: &[u16]) -> Verdict
-    ensures { finding_of result ≡ entry unknowns s (as_lent forms pool lines) }
+    ensures { finding_of result ≡ entry unknowns s (tables forms.now pool.now lines.now) }
 {
     let size = session::start::sized(forms, pool, lines);
     if let Verdict::Fail(why) = size {

@@ -1,7 +1,7 @@
 // The standing of a session: refuted by its lowest empty line, or not.
 ghost use Rattle.std.specs.Prelude.{◌≡◌, ◌*◌, ◌≤◌, length};
 ghost use Rattle.session.specs.Limits.{line_cells};
-ghost use Rattle.session.specs.Cells.{as_lent};
+ghost use Rattle.session.specs.Cells.{tables};
 ghost use Rattle.session.specs.Calls.{stands_of, Tells};
 ghost use Rattle.order.specs.Empty.{lowest_empty};
 
@@ -28,7 +28,7 @@ fn lowest_empty(lines: &[u16], count: u16) -> Standing
 
 // It writes nothing.
 pub fn standing(s: Session, forms: &[i32], pool: &[u16], lines: &[u16]) -> Standing
-    ensures { Tells s (as_lent forms pool lines) result }
+    ensures { Tells s (tables forms.now pool.now lines.now) result }
 {
     if let Verdict::Fail(why) = crate::entered(s, forms, pool, lines) {
         return Standing::Refused(why);

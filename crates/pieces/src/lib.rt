@@ -3,7 +3,7 @@
 
 ghost use Rattle.std.specs.Prelude.{◌≡◌, ◌≤◌, length, take, drop};
 ghost use Rattle.session.specs.Answers.{finding_of};
-ghost use Rattle.session.specs.Cells.{as_lent, as_left};
+ghost use Rattle.session.specs.Cells.{tables};
 ghost use Rattle.stream.specs.Run.{stop_number};
 ghost use Rattle.pieces.specs.Step.{next_by, next_of, Judges};
 ghost use Rattle.pieces.specs.Parts.{Holding, Kept};
@@ -13,7 +13,7 @@ use session::state::Session;
 use std::num::wrapping_add_u64;
 
 // How far a file is judged: the session, and how many records and bytes were accepted.
-#[derive(Drop)]
+#[derive(Clone, Copy)]
 pub struct Progress {
     pub session: Session,
     pub records: u64,
@@ -21,13 +21,13 @@ pub struct Progress {
 }
 
 // The file goes on behind so many bytes, which stay at the buffer's front; or it is decided, by its stopping number.
-#[derive(Drop)]
+#[derive(Clone, Copy)]
 pub enum Next {
     GoesOn(usize),
     Decided(u16),
 }
 
-#[derive(Drop)]
+#[derive(Clone, Copy)]
 pub struct Judged {
     pub progress: Progress,
     pub next: Next,
@@ -92,7 +92,7 @@ pub fn judge_piece(
     count: usize,
     last: bool,
 ) -> Judged
-    ensures { Judges progress (as_lent forms pool lines) buffer.old count last result (as_left forms pool lines) buffer.new }
+    ensures { Judges progress (tables forms.old pool.old lines.old) buffer.old count last result (tables forms.new pool.new lines.new) buffer.new }
 {
     let end = holding(buffer, count);
     let held = &buffer[0..end];

@@ -11,7 +11,7 @@ use session::answers::Refusal;
 use session::state::Session;
 
 // A line is the first so many literals of one lent list joined with the first so many of another.
-#[derive(Drop)]
+#[derive(Clone, Copy)]
 pub struct NewLine {
     pub origin: u16,
     pub first: usize,
@@ -41,7 +41,7 @@ impl NewLine {
 }
 
 // The cells of a form, and the literals of a line, stand in what the caller lends.
-#[derive(Drop)]
+#[derive(Clone, Copy)]
 pub enum Proposal {
     Refused(Refusal),
     Form,

@@ -7,7 +7,7 @@ ghost use Rattle.records.specs.Marks.{rule_mark_of, record_mark_of, bearing_of, 
 use session::state::Session;
 
 // The marks of the rules.
-#[derive(Drop)]
+#[derive(Clone, Copy)]
 pub enum RuleMark {
     Fm,
     Pm,
@@ -25,14 +25,14 @@ pub enum RuleMark {
     Sd,
 }
 
-#[derive(Drop)]
+#[derive(Clone, Copy)]
 pub enum RecordMark {
     Rule(RuleMark),
     Op,
     Wd,
 }
 
-#[derive(Drop)]
+#[derive(Clone, Copy)]
 pub enum Bearing {
     Unknown,
     Bears(RecordMark),
@@ -43,7 +43,7 @@ pub const BEHIND_LETTERS: usize = 2;
 
 // Two letters; a count with its place and its range, or none; and the bytes: all of them at count 0, and how many more for each that is
 // counted.
-#[derive(Drop)]
+#[derive(Clone, Copy)]
 pub struct Layout {
     pub first: u8,
     pub second: u8,

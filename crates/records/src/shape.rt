@@ -56,7 +56,7 @@ fn shape_of(bytes: &[u8], m: RecordMark) -> Verdict
 }
 
 // Bytes of a wrong shape, or of the right one, with the mark that they bear.
-#[derive(Drop)]
+#[derive(Clone, Copy)]
 pub enum Shape {
     Wrong(Refusal),
     Right(RecordMark),
@@ -78,7 +78,7 @@ pub fn read_shape(bytes: &[u8]) -> Shape
 }
 
 // The record at the front of a stream: its mark and how many bytes it has, or that all bytes are a record of a wrong shape.
-#[derive(Drop)]
+#[derive(Clone, Copy)]
 pub enum Front {
     Wrong(Refusal),
     Record(RecordMark, usize),

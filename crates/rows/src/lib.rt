@@ -2,7 +2,7 @@
 // share, and what a sum of rows reaches.
 #![tactic(auto)]
 
-#[derive(Drop)]
+#[derive(Clone, Copy)]
 pub enum Reached {
     // The lowest unknown whose sum is no multiple of the modulus, with that sum.
     Coefficient(usize, i64),

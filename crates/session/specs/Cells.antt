@@ -1,7 +1,5 @@
 -- What a session and its tables hold, cell by cell, and the ledger that is read from them.
 use Rattle.std.specs.Prelude.{List, [], ◌∷◌, ◌++◌, ℕ, zero, suc, ◌+◌, ◌*◌, ◌-◌, ℤ, get_or, take, drop, replicate}
-use Rattle.std.specs.Borrow.{Bor}
-use denote.Triple.Both.{Both}
 use Rattle.ints.specs.Tests.{up_to}
 use Rattle.rows.specs.Form.{form_at}
 use Rattle.ledger.specs.Limits.{most_levels}
@@ -17,16 +15,6 @@ pub record Tables : Type 0 where
 
 abbrev pub tables : List ℤ → List ℕ → List ℕ → Tables
 tables f p l = record { forms = f; pool = p; lines = l }
-
--- the lent tables: as a requirement finds them, as they were lent, and as they are left
-abbrev pub as_given : Bor (List ℤ) → Bor (List ℕ) → Bor (List ℕ) → Tables
-as_given f p l = tables f.now p.now l.now
-
-abbrev pub as_lent : {X Y Z : Type 0} → Both (Bor (List ℤ)) X → Both (Bor (List ℕ)) Y → Both (Bor (List ℕ)) Z → Tables
-as_lent f p l = as_given f.entry p.entry l.entry
-
-abbrev pub as_left : {X Y Z : Type 0} → Both X (Bor (List ℤ)) → Both Y (Bor (List ℕ)) → Both Z (Bor (List ℕ)) → Tables
-as_left f p l = as_given f.exit p.exit l.exit
 
 -- the cells that have a name
 abbrev pub named : ℕ → Tables → Tables

@@ -2,7 +2,7 @@
 ghost use Rattle.std.specs.Prelude.{◌≡◌};
 ghost use Rattle.session.specs.Answers.{number_of};
 
-#[derive(Drop)]
+#[derive(Clone, Copy)]
 pub enum Refusal {
     ShortTable,
     NotInOrder,
@@ -20,35 +20,35 @@ pub enum Refusal {
 }
 
 // What tests find: that all pass, or the refusal of the first that fails.
-#[derive(Drop)]
+#[derive(Clone, Copy)]
 pub enum Verdict {
     Pass,
     Fail(Refusal),
 }
 
 // What an acceptance made: a form or a line with its number, or the count of open levels.
-#[derive(Drop)]
+#[derive(Clone, Copy)]
 pub enum Made {
     Form(u16),
     Line(u16),
     Level(u16),
 }
 
-#[derive(Drop)]
+#[derive(Clone, Copy)]
 pub enum Answer {
     Accepted(Made),
     Refused(Refusal),
 }
 
 // What a start answers.
-#[derive(Drop)]
+#[derive(Clone, Copy)]
 pub enum Start {
     Started,
     Refused(Refusal),
 }
 
 // What stands: the lowest empty line, or none.
-#[derive(Drop)]
+#[derive(Clone, Copy)]
 pub enum Standing {
     Refuted(u16),
     NotRefuted,

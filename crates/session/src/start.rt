@@ -1,7 +1,7 @@
 // The start: every named cell becomes 0.
 ghost use Rattle.std.specs.Prelude.{◌≡◌};
 ghost use Rattle.rows.specs.Limits.{unknowns};
-ghost use Rattle.session.specs.Cells.{as_lent, as_left};
+ghost use Rattle.session.specs.Cells.{tables};
 ghost use Rattle.session.specs.Calls.{Starts};
 ghost use Rattle.session.specs.InOrder.{sizes};
 ghost use Rattle.session.specs.Answers.{finding_of};
@@ -10,7 +10,7 @@ ghost use Rattle.ledger.specs.Apply.{finding};
 use crate::answers::{Refusal, Start, Verdict};
 use crate::state::Session;
 
-#[derive(Drop)]
+#[derive(Clone, Copy)]
 pub struct Begun {
     pub session: Session,
     pub start: Start,
@@ -18,7 +18,7 @@ pub struct Begun {
 
 // Whether the tables have their named cells.
 pub fn sized(forms: &[i32], pool: &[u16], lines: &[u16]) -> Verdict
-    ensures { finding_of result ≡ finding (sizes unknowns (as_lent forms pool lines)) }
+    ensures { finding_of result ≡ finding (sizes unknowns (tables forms.now pool.now lines.now)) }
 {
     if forms.len() < Session::FORM_TABLE {
         return Verdict::Fail(Refusal::ShortTable);
@@ -34,7 +34,7 @@ pub fn sized(forms: &[i32], pool: &[u16], lines: &[u16]) -> Verdict
 
 // A fresh session over tables that are 0 throughout; of short tables nothing is written.
 pub fn start(forms: &mut [i32], pool: &mut [u16], lines: &mut [u16]) -> Begun
-    ensures { Starts (as_lent forms pool lines) result (as_left forms pool lines) }
+    ensures { Starts (tables forms.old pool.old lines.old) result (tables forms.new pool.new lines.new) }
 {
     if let Verdict::Fail(why) = sized(forms, pool, lines) {
         return Begun {

@@ -4,7 +4,7 @@ ghost use Rattle.session.specs.Cells.{fresh_session, counts_of};
 ghost use Rattle.session.specs.Parts.{all_limits};
 
 // The counts as a level opened.
-#[derive(Drop)]
+#[derive(Clone, Copy)]
 pub struct Mark {
     pub forms: u16,
     pub lines: u16,
@@ -13,7 +13,7 @@ pub struct Mark {
 
 // The limits of a session: the unknowns; the size of a constant or coefficient, of a divisor and of a multiplier; the most terms of a sum,
 // forms, lines, literals of all lines together and open levels; and the most literals of a line.
-#[derive(Drop)]
+#[derive(Clone, Copy)]
 pub struct Limits {
     pub unknowns: usize,
     pub number: i32,
@@ -28,7 +28,7 @@ pub struct Limits {
 }
 
 // How much of each table is in use, and the marks of the open levels.
-#[derive(Drop)]
+#[derive(Clone, Copy)]
 pub struct Session {
     pub forms: u16,
     pub lines: u16,

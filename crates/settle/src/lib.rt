@@ -7,7 +7,7 @@ ghost use Rattle.ledger.specs.Limits.{most_levels};
 ghost use Rattle.ledger.specs.Literals.{joined};
 ghost use Rattle.ledger.specs.Settles.{opens, withdraws};
 ghost use Rattle.session.specs.Limits.{form_cells, form_table};
-ghost use Rattle.session.specs.Cells.{Tables, as_given, as_lent, as_left};
+ghost use Rattle.session.specs.Cells.{Tables, tables};
 ghost use Rattle.session.specs.Answers.{answer_of};
 ghost use Rattle.proposals.specs.Proposing.{proposal_of, Fits};
 ghost use Rattle.settle.specs.Settling.{with_counts, with_levels, after, answer_by, InPlace, Seen, Settles, LineTables, KeepsForm, KeepsLine};
@@ -17,7 +17,7 @@ use session::answers::{Answer, Made, Refusal};
 use session::state::{Mark, Session};
 
 // What a record can change of a session: the counts, the count of open levels and the last of their marks (where none is open, mark 0).
-#[derive(Drop)]
+#[derive(Clone, Copy)]
 pub struct Top {
     pub counts: Mark,
     pub open: u16,
@@ -25,7 +25,7 @@ pub struct Top {
 }
 
 // A level more or less: what the counts, the count of open levels and one mark become.
-#[derive(Drop)]
+#[derive(Clone, Copy)]
 pub struct Levels {
     pub counts: Mark,
     pub open: u16,
@@ -34,7 +34,7 @@ pub struct Levels {
 }
 
 // What settling does to a session: nothing; a form or a line more, with the counts then; or a level more or less.
-#[derive(Drop)]
+#[derive(Clone, Copy)]
 pub enum Change {
     Refused(Refusal),
     Adds(Made, Mark),
@@ -170,8 +170,8 @@ fn open_level(top: Top) -> Change
 
 // One level less: the counts return to the last mark, and every freed cell and the mark become 0.
 fn close_level(top: Top, forms: &mut [i32], pool: &mut [u16], lines: &mut [u16]) -> Change
-    requires { Seen unknowns top (as_given forms pool lines) }
-    ensures { Settles unknowns top (as_lent forms pool lines) withdraws result (as_left forms pool lines) }
+    requires { Seen unknowns top (tables forms.old pool.old lines.old) }
+    ensures { Settles unknowns top (tables forms.old pool.old lines.old) withdraws result (tables forms.new pool.new lines.new) }
 {
     if top.open == 0 {
         return Change::Refused(Refusal::NoLevelOpen);
@@ -202,8 +202,8 @@ pub fn settle(
     first: &[u16],
     second: &[u16],
 ) -> Change
-    requires { Seen unknowns top (as_given forms pool lines) × (length cells.now ≡ form_cells unknowns) × Fits p first.now second.now }
-    ensures { Settles unknowns top (as_lent forms pool lines) (proposal_of p cells.now first.now second.now) result (as_left forms pool lines) }
+    requires { Seen unknowns top (tables forms.old pool.old lines.old) × (length cells.now ≡ form_cells unknowns) × Fits p first.now second.now }
+    ensures { Settles unknowns top (tables forms.old pool.old lines.old) (proposal_of p cells.now first.now second.now) result (tables forms.new pool.new lines.new) }
 {
     match p {
         Proposal::Refused(why) => Change::Refused(why),

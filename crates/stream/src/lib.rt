@@ -5,7 +5,7 @@ ghost use Rattle.std.specs.Prelude.{◌≡◌, length};
 ghost use Rattle.rows.specs.Limits.{unknowns, most_terms};
 ghost use Rattle.ledger.specs.Split.{records_of};
 ghost use Rattle.session.specs.Answers.{finding_of};
-ghost use Rattle.session.specs.Cells.{Tables, as_given, as_lent, as_left};
+ghost use Rattle.session.specs.Cells.{Tables, tables};
 ghost use Rattle.laid.specs.Held.{Held};
 ghost use Rattle.proposals.specs.Proposing.{Scratch};
 ghost use Rattle.settle.specs.Settling.{Seen};
@@ -20,7 +20,7 @@ use session::state::{Mark, Session};
 use settle::{Change, Top};
 
 // The session afterwards, how many records and bytes were accepted, and what stopped it: a refusal, or the end of the stream.
-#[derive(Drop)]
+#[derive(Clone, Copy)]
 pub struct Ran {
     pub session: Session,
     pub records: usize,
@@ -29,7 +29,7 @@ pub struct Ran {
 }
 
 // What the front record of a stream changes, and how many bytes it has.
-#[derive(Drop)]
+#[derive(Clone, Copy)]
 struct Step {
     change: Change,
     size: usize,
@@ -46,8 +46,8 @@ fn front_step(
     first: &mut [u16],
     second: &mut [u16],
 ) -> Step
-    requires { Seen unknowns top (as_given forms pool lines) × (length cells.old ≡ most_terms) × Scratch first.old second.old }
-    ensures { FrontStep unknowns top (as_lent forms pool lines) rest.now result.change result.size (as_left forms pool lines) }
+    requires { Seen unknowns top (tables forms.old pool.old lines.old) × (length cells.old ≡ most_terms) × Scratch first.old second.old }
+    ensures { FrontStep unknowns top (tables forms.old pool.old lines.old) rest.now result.change result.size (tables forms.new pool.new lines.new) }
 {
     match records::shape::read_front(rest) {
         Front::Wrong(why) => Step {
@@ -90,8 +90,8 @@ fn ended(
 // The records of a stream on such tables; a and b are for the two lists of a line's literals. The session's parts stay in place while records
 // pass: copying it for each of them costs more than what most of them do.
 fn steps(s: Session, forms: &mut [i32], pool: &mut [u16], lines: &mut [u16], stream: &[u8]) -> Ran
-    requires { Held unknowns s (as_given forms pool lines) }
-    ensures { totals_of result (as_left forms pool lines) ≡ each_by (stepped unknowns) 0 0 s (as_lent forms pool lines) (records_of stream.now) }
+    requires { Held unknowns s (tables forms.old pool.old lines.old) }
+    ensures { totals_of result (tables forms.new pool.new lines.new) ≡ each_by (stepped unknowns) 0 0 s (tables forms.old pool.old lines.old) (records_of stream.now) }
 {
     let mut cells = [0i32; Session::MOST_TERMS];
     let mut a = [0u16; Session::LONGEST_LINE];
@@ -131,7 +131,7 @@ fn steps(s: Session, forms: &mut [i32], pool: &mut [u16], lines: &mut [u16], str
 
 // 1 and 2 are tested once, and then each record pays only for itself. Whatever session, tables and stream hold, nothing has to be tested first.
 pub fn run(s: Session, forms: &mut [i32], pool: &mut [u16], lines: &mut [u16], stream: &[u8]) -> Ran
-    ensures { Runs s (as_lent forms pool lines) stream.now result (as_left forms pool lines) }
+    ensures { Runs s (tables forms.old pool.old lines.old) stream.now result (tables forms.new pool.new lines.new) }
 {
     let verdict = order::entered(s, forms, pool, lines);
     if let Verdict::Fail(why) = verdict {

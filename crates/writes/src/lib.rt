@@ -4,7 +4,7 @@
 ghost use Rattle.std.specs.Prelude.{◌≡◌, ◌≤◌, length};
 ghost use Rattle.rows.specs.Limits.{unknowns};
 ghost use Rattle.ledger.specs.Literals.{joined};
-ghost use Rattle.session.specs.Cells.{as_given, as_lent, as_left};
+ghost use Rattle.session.specs.Cells.{tables};
 ghost use Rattle.session.specs.Effects.{written, form_written, freed, Between};
 ghost use Rattle.writes.specs.Placing.{FormPlace, LinePlace, LinePlaced};
 
@@ -55,8 +55,8 @@ pub fn add_line(
 
 // Every cell between two marks becomes 0.
 pub fn free_cells(from: Mark, to: Mark, forms: &mut [i32], pool: &mut [u16], lines: &mut [u16])
-    requires { Between unknowns from to (as_given forms pool lines) }
-    ensures { as_left forms pool lines ≡ freed unknowns from to (as_lent forms pool lines) }
+    requires { Between unknowns from to (tables forms.old pool.old lines.old) }
+    ensures { tables forms.new pool.new lines.new ≡ freed unknowns from to (tables forms.old pool.old lines.old) }
 {
     let first_form = Session::FORM_CELLS * (from.forms as usize);
     let form_end = Session::FORM_CELLS * (to.forms as usize);

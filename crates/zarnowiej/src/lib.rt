@@ -5,7 +5,7 @@
 
 mod plain;
 
-ghost use Rattle.session.specs.Cells.{as_lent, as_left};
+ghost use Rattle.session.specs.Cells.{tables};
 ghost use Rattle.zarnowiej.specs.Crossing.{StartCrosses, FeedCrosses, RunCrosses, StandingCrosses};
 
 use crate::plain::{Begun, Fed, Ran, Session, Stands};
@@ -13,7 +13,7 @@ use crate::plain::{Begun, Fed, Ran, Session, Stands};
 // The start: a fresh session, and every named cell becomes 0. Refused with 1 where a table is too short.
 #[unsafe(no_mangle)]
 pub extern "C" fn zarnowiej_start(forms: &mut [i32], pool: &mut [u16], lines: &mut [u16]) -> Begun
-    ensures { StartCrosses (as_lent forms pool lines) result (as_left forms pool lines) }
+    ensures { StartCrosses (tables forms.old pool.old lines.old) result (tables forms.new pool.new lines.new) }
 {
     let begun = session::start::start(forms, pool, lines);
     let answer = begun.start;
@@ -30,7 +30,7 @@ pub extern "C" fn zarnowiej_feed(
     lines: &mut [u16],
     bytes: &[u8],
 ) -> Fed
-    ensures { FeedCrosses s (as_lent forms pool lines) bytes.now result (as_left forms pool lines) }
+    ensures { FeedCrosses s (tables forms.old pool.old lines.old) bytes.now result (tables forms.new pool.new lines.new) }
 {
     let inner = crate::plain::session_in(s);
     let fed = checker::feed::feed(inner, forms, pool, lines, bytes);
@@ -48,7 +48,7 @@ pub extern "C" fn zarnowiej_run(
     lines: &mut [u16],
     stream: &[u8],
 ) -> Ran
-    ensures { RunCrosses s (as_lent forms pool lines) stream.now result (as_left forms pool lines) }
+    ensures { RunCrosses s (tables forms.old pool.old lines.old) stream.now result (tables forms.new pool.new lines.new) }
 {
     let inner = crate::plain::session_in(s);
     let ran = stream::run(inner, forms, pool, lines, stream);
@@ -65,7 +65,7 @@ pub extern "C" fn zarnowiej_standing(
     pool: &[u16],
     lines: &[u16],
 ) -> Stands
-    ensures { StandingCrosses s (as_lent forms pool lines) result }
+    ensures { StandingCrosses s (tables forms.now pool.now lines.now) result }
 {
     let inner = crate::plain::session_in(s);
     let standing = order::standing::standing(inner, forms, pool, lines);

@@ -9,7 +9,7 @@ use session::answers::{Answer, Made, Standing, Start, Verdict};
 
 // The counts as a level opened.
 #[repr(C)]
-#[derive(Drop)]
+#[derive(Clone, Copy)]
 pub struct Mark {
     pub forms: u16,
     pub lines: u16,
@@ -18,7 +18,7 @@ pub struct Mark {
 
 // How much of each table is in use, how many levels are open, and their marks.
 #[repr(C)]
-#[derive(Drop)]
+#[derive(Clone, Copy)]
 pub struct Session {
     pub forms: u16,
     pub lines: u16,
@@ -29,7 +29,7 @@ pub struct Session {
 
 // What a start gives: the fresh session, and 0 or the number of the refusal.
 #[repr(C)]
-#[derive(Drop)]
+#[derive(Clone, Copy)]
 pub struct Begun {
     pub session: Session,
     pub refusal: u16,
@@ -38,7 +38,7 @@ pub struct Begun {
 // What a record gives: the session afterwards, and the answer. `what` is 0 for a refusal, with the refusal's number; 1 for a form and 2 for
 // a line, with its number; 3 for a level, with the count of open levels.
 #[repr(C)]
-#[derive(Drop)]
+#[derive(Clone, Copy)]
 pub struct Fed {
     pub session: Session,
     pub what: u16,
@@ -48,7 +48,7 @@ pub struct Fed {
 // What a run gives: the session afterwards, how many records and bytes were accepted, and what stopped it: the refusal's number, or 0 at the
 // end.
 #[repr(C)]
-#[derive(Drop)]
+#[derive(Clone, Copy)]
 pub struct Ran {
     pub session: Session,
     pub stop: u16,
@@ -59,7 +59,7 @@ pub struct Ran {
 // What the standing is: the refusal's number, or 0 where there is none; then 1 for refuted, with the lowest empty line, or 0 for not
 // refuted. What is not said is 0.
 #[repr(C)]
-#[derive(Drop)]
+#[derive(Clone, Copy)]
 pub struct Stands {
     pub refusal: u16,
     pub refuted: u16,

@@ -1,0 +1,17 @@
+-- `literals::tests::all_name_below` meets its contract. The loop's invariant: the test of the literals from i on is the test of all.
+use mathlib.Core.Path.{◌≡◌, refl, sym, ◌∙◌}
+use mathlib.Core.Bool.{true}
+use Prim.Native.Nat.{◌-◌, ◌≤◌}
+use native.Mathlib.Omega.{arith}
+use borrow.Author.Rules.{rules}
+use borrow.Author.Tests.{lt-ltb, le-ltb}
+use lib.ListN.{length, get_or, drop}
+use Rattle.ints.proofs.Lists.{all-fails, all-next, all_over}
+use Rattle.ledger.specs.Literals.{form_named, below, names_below}
+use Rattle.literals.proofs.tests.all_name_below.Given as goal
+
+abbrev pub invariant-loop-i : goal.invariant-loop-i
+invariant-loop-i l = (l.i ≤ length l.literals) × (names_below l.count (drop l.i l.literals) ≡ names_below l.count l.literals)
+
+abbrev pub decreases-loop-i : goal.decreases-loop-i
+decreases-loop-i l = length l.literals - l.i

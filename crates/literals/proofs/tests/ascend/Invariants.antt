@@ -1,0 +1,19 @@
+-- `literals::tests::ascend` meets its contract. The loop's invariant: whether the numbers from i - 1 on ascend is whether all do.
+use mathlib.Core.Path.{◌≡◌, refl, sym, ◌∙◌}
+use mathlib.Core.Bool.{Bool, true, ◌&&◌}
+use mathlib.Core.List.{List, [], ◌∷◌}
+use Prim.Native.Nat.{ℕ, suc, ◌+◌, ◌-◌, ◌≤◌, ◌<◌}
+use native.Mathlib.Omega.{arith}
+use borrow.Author.Rules.{rules}
+use borrow.Author.Tests.{lt-ltb, le-ltb}
+use lib.Dec.{ltb}
+use lib.ListN.{length, get_or, drop, length-drop}
+use lib.Seq.{drop-cons}
+use Rattle.ledger.specs.Literals.{ascending}
+use Rattle.literals.proofs.tests.ascend.Given as goal
+
+abbrev pub invariant-loop-i : goal.invariant-loop-i
+invariant-loop-i l = (1 ≤ l.i) × (ascending (drop (l.i - 1) l.numbers) ≡ ascending l.numbers)
+
+abbrev pub decreases-loop-i : goal.decreases-loop-i
+decreases-loop-i l = length l.numbers - l.i

@@ -1,0 +1,16 @@
+-- `literals::write::write_literals` meets its contract. The loop's invariant: the literals of the forms passed are written.
+use mathlib.Core.Path.{◌≡◌, refl}
+use mathlib.Core.List.{List, map, map-append}
+use Prim.Native.Nat.{ℕ, ◌+◌, ◌*◌, ◌-◌, ◌≤◌, ◌<◌}
+use native.Mathlib.Numerals.{add-one}
+use native.Mathlib.Omega.{arith}
+use borrow.Author.Rules.{rules}
+use lib.ListN.{length, get_or, take, set, length-set}
+use lib.Seq.{take-suc, take-suc-set, take-length}
+use Rattle.literals.proofs.write.write_literals.Given as goal
+
+abbrev pub invariant-loop-i : goal.invariant-loop-i
+invariant-loop-i l = (l.i ≤ length l.picks) × (length l.out ≡ length l.initial.out) × (take l.i l.out ≡ map (λ f. 2 * f + l.sign) (take l.i l.picks))
+
+abbrev pub decreases-loop-i : goal.decreases-loop-i
+decreases-loop-i l = length l.picks - l.i

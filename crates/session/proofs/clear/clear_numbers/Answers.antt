@@ -1,0 +1,15 @@
+-- `session::clear::clear_numbers` meets its contract. Invariant: the first i cells are 0 and the others are as they were.
+use mathlib.Core.Path.{◌≡◌}
+use mathlib.Core.List.{◌++◌}
+use Prim.Native.Nat.{◌≤◌, ◌-◌}
+use native.Mathlib.Omega.{arith}
+use lib.ListN.{length, replicate, drop, length-set}
+use Rattle.session.proofs.Filling.{fill_more, fill_all}
+use borrow.Author.Rules.{rules}
+use Rattle.session.proofs.clear.clear_numbers.Goals as goal
+
+pub loop-i-preserved : goal.loop-i-preserved
+loop-i-preserved c = (omega arith, simp length-set c.loop-i.invariant.1, fill_more 0 _ _ _ (omega arith) c.loop-i.invariant.2)
+
+pub returns : goal.returns
+returns c = fill_all 0 c.loop-i.i _ _ (omega arith) c.loop-i.invariant.2

@@ -1,0 +1,15 @@
+-- `session::clear::clear_numbers` meets its contract. Invariant: the first i cells are 0 and the others are as they were.
+use mathlib.Core.Path.{◌≡◌}
+use mathlib.Core.List.{◌++◌}
+use Prim.Native.Nat.{◌≤◌, ◌-◌}
+use native.Mathlib.Omega.{arith}
+use lib.ListN.{length, replicate, drop, length-set}
+use Rattle.session.proofs.Filling.{fill_more, fill_all}
+use borrow.Author.Rules.{rules}
+use Rattle.session.proofs.clear.clear_numbers.Given as goal
+
+abbrev pub invariant-loop-i : goal.invariant-loop-i
+invariant-loop-i l = (l.i ≤ length l.initial.cells) × (length l.cells ≡ length l.initial.cells) × (l.cells ≡ replicate l.i 0 ++ drop l.i l.initial.cells)
+
+abbrev pub decreases-loop-i : goal.decreases-loop-i
+decreases-loop-i l = length l.initial.cells - l.i

@@ -1,0 +1,38 @@
+-- `session::start::start` meets its contract. Where the sizes pass, the tables have their named cells, which come back as zeros.
+use Rattle.rows.specs.Limits.{unknowns}
+use Rattle.session.specs.Cells.{Tables, tables}
+use Rattle.session.specs.Parts.{Long}
+use Rattle.session.proofs.Starting.{passed→long, start-refused, start-passed}
+use borrow.Author.Rules.{rules}
+use Rattle.session.proofs.start.start.Goals as goal
+use Rattle.session.proofs.start.start.Goals.{In_default, Start}
+
+-- the tables at the call
+abbrev lent : Start → Tables
+lent c = tables c.args.forms.now c.args.pool.now c.args.lines.now
+
+pub returns-in-Fail : goal.returns-in-Fail
+returns-in-Fail c =
+    start-refused unknowns (lent (goal.at.returns-in-Fail c).Start) _ c.sized.ensures
+    _ c.fresh.ensures c.in-Fail.why c.in-Fail.is
+
+-- so the parts that are cleared exist
+long_then : (c : In_default) → Long unknowns (lent (goal.at.In_default c).Start)
+long_then c = passed→long unknowns _ _ c.sized.ensures c.in_default.is
+
+pub slice_bounds-clear_forms-end : goal.slice_bounds-clear_forms-end
+slice_bounds-clear_forms-end c = (long_then c).form-room
+
+pub slice_bounds-clear_numbers-end : goal.slice_bounds-clear_numbers-end
+slice_bounds-clear_numbers-end c = (long_then (goal.at.slice_bounds-clear_numbers-end c).In_default).pool-room
+
+pub slice_bounds-clear_numbers-end-2 : goal.slice_bounds-clear_numbers-end-2
+slice_bounds-clear_numbers-end-2 c = (long_then (goal.at.slice_bounds-clear_numbers-end-2 c).In_default).line-room
+
+pub returns : goal.returns
+returns c =
+    start-passed unknowns (lent (goal.at.returns c).Start) _ c.sized.ensures
+    _ c.fresh-2.ensures _ _ _ c.in_default.is
+    c.clear_forms.ensures
+    c.clear_numbers.ensures
+    c.clear_numbers-2.ensures

@@ -1,0 +1,14 @@
+use Rattle.fields.proofs.FilledLaws.{Filled, filled_none, filled_one}
+use Rattle.ledger.specs.Bytes.{byte_at, u16_at}
+use Rattle.ledger.specs.Limits.{longest_line}
+use borrow.Author.Rules.{rules}
+use native.Mathlib.Omega.{arith}
+use Prim.Native.Nat.{◌≤◌, ◌+◌, ◌*◌, ◌-◌}
+use mathlib.Core.Path.{◌≡◌}
+use Rattle.fields.proofs.read_numbers.Given as goal
+
+abbrev pub invariant-loop-i : goal.invariant-loop-i
+invariant-loop-i l = (l.i ≤ l.count) × (l.count ≤ longest_line) × Filled longest_line (λ k. u16_at l.bytes (l.from + 2 * k)) l.cells l.i
+
+abbrev pub decreases-loop-i : goal.decreases-loop-i
+decreases-loop-i l = l.count - l.i

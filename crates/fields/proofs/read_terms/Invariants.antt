@@ -1,0 +1,18 @@
+use mathlib.Core.Path.{◌≡◌, refl, ◌∙◌}
+use Prim.Native.Nat.{◌≤◌, ◌+◌, ◌*◌, ◌-◌}
+use native.Mathlib.Omega.{arith}
+use borrow.Author.Rules.{sfits_of, rules}
+use mir.Syntax.{w32}
+use mir.ValLaws.{to_z-of_z}
+use Rattle.rows.specs.Limits.{most_terms}
+use Rattle.ledger.specs.Bytes.{byte_at, u16_at, i32_at}
+use Rattle.fields.proofs.FilledLaws.{Filled, filled_none, filled_one, filled_terms}
+use Rattle.fields.proofs.read_terms.Given as goal
+
+abbrev pub invariant-loop-i : goal.invariant-loop-i
+invariant-loop-i l =
+    (l.i ≤ l.count) × (l.count ≤ most_terms)
+    × Filled most_terms (λ k. u16_at l.bytes (l.first + 6 * k)) l.forms l.i × Filled most_terms (λ k. i32_at l.bytes (l.second + 6 * k)) l.multipliers l.i
+
+abbrev pub decreases-loop-i : goal.decreases-loop-i
+decreases-loop-i l = l.count - l.i

@@ -97,8 +97,8 @@ fn whole_front(bytes: &[u8], m: RecordMark, required: usize) -> Front
 
 // The front record where its mark is known. It has the right shape by the way its bytes are counted.
 fn marked_front(bytes: &[u8], m: RecordMark) -> Front
-    requires in_bounds { 2 ≤ length bytes.now }
-    requires bytes_value { mark_of bytes.now ≡ bears (record_mark_of m) }
+    requires long { 2 ≤ length bytes.now }
+    requires marked { mark_of bytes.now ≡ bears (record_mark_of m) }
     ensures { Fronted bytes.now result }
 {
     let l = crate::marks::layout_of(m);

@@ -1,0 +1,21 @@
+-- `mark_in_first_half` meets its contract. The loop's invariant: the bytes bear none of the marks passed, so the rest of the marks decide.
+use mathlib.Core.Path.{refl, sym, ◌∙◌}
+use Prim.Native.Nat.{◌-◌}
+use native.Mathlib.Omega.{arith}
+use borrow.Author.Rules.{rules}
+use lib.ListN.{length, take}
+use Rattle.ledger.specs.Record.{marks as table}
+use Rattle.records.proofs.MarkLaws.{Seeking, borne, not_borne, none_borne}
+use Rattle.records.proofs.marks.mark_in_first_half.Goals as goal
+
+pub loop-i-init : goal.loop-i-init
+loop-i-init c = record { within = omega arith; rest = refl }
+
+pub returns-then-has_letters : goal.returns-then-has_letters
+returns-then-has_letters c = borne c.loop-i.invariant _ (omega arith) (sym c.has_letters.ensures ∙ c.if-has_letters.true)
+
+pub loop-i-preserved : goal.loop-i-preserved
+loop-i-preserved c = not_borne c.loop-i.invariant _ (omega arith) (sym c.has_letters.ensures ∙ c.if-has_letters.false)
+
+pub returns : goal.returns
+returns c = none_borne c.loop-i.invariant (omega arith)

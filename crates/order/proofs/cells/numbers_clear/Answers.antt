@@ -1,0 +1,25 @@
+-- `order::cells::numbers_clear` meets its contract. The loop's invariant: the test of the cells from i on is the test from `from` on.
+use mathlib.Core.Path.{◌≡◌, refl, sym, ◌∙◌}
+use mathlib.Core.Bool.{Bool}
+use Prim.Native.Nat.{ℕ, ◌-◌}
+use native.Mathlib.Omega.{arith}
+use borrow.Author.Tests.{eq-eqb, ne_eqb}
+use borrow.Author.Rules.{rules}
+use lib.Dec.{eqb}
+use lib.ListN.{length, drop}
+use Rattle.ints.specs.Tests.{all}
+use Rattle.ints.proofs.Lists.{all-fails, all-next, all_over}
+use Rattle.order.proofs.cells.numbers_clear.Invariants.{clear}
+use Rattle.order.proofs.cells.numbers_clear.Goals as goal
+
+pub loop-i-init : goal.loop-i-init
+loop-i-init c = refl
+
+pub returns-then-cells-i-ne0 : goal.returns-then-cells-i-ne0
+returns-then-cells-i-ne0 c = sym (all-fails clear c.args.cells.now c.loop-i.i 0 (omega arith) (ne_eqb _ 0 c.if-cells-i-ne0.true)) ∙ c.loop-i.invariant
+
+pub loop-i-preserved : goal.loop-i-preserved
+loop-i-preserved c = sym (all-next clear c.args.cells.now c.loop-i.i 0 (omega arith) (eq-eqb _ 0 c.if-cells-i-ne0.false)) ∙ c.loop-i.invariant
+
+pub returns : goal.returns
+returns c = sym (all_over clear c.args.cells.now c.loop-i.i 0 (omega arith)) ∙ c.loop-i.invariant

@@ -1,0 +1,19 @@
+-- `order::levels::marks_clear` meets its contract. The loop's invariant: the test of the marks from i on is the test from the open levels on.
+use mathlib.Core.Path.{◌≡◌, refl, sym, ◌∙◌}
+use Prim.Native.Nat.{◌-◌, ◌≤◌}
+use native.Mathlib.Omega.{arith}
+use borrow.Author.Tests.{not-true, not-false}
+use borrow.Author.Rules.{rules}
+use lib.ListN.{length, drop, length-map}
+use Rattle.ints.specs.Tests.{all}
+use Rattle.ints.proofs.Lists.{all-fails, all-next, all_over}
+use Rattle.ledger.specs.Limits.{most_levels}
+use Rattle.session.specs.Cells.{no_mark}
+use Rattle.session.specs.InOrder.{is_no_mark}
+use Rattle.order.proofs.levels.marks_clear.Given as goal
+
+abbrev pub invariant-loop-i : goal.invariant-loop-i
+invariant-loop-i l = (l.i ≤ most_levels) × (all is_no_mark (drop l.i l.s.marks) ≡ all is_no_mark (drop l.s.«open» l.s.marks))
+
+abbrev pub decreases-loop-i : goal.decreases-loop-i
+decreases-loop-i l = most_levels - l.i

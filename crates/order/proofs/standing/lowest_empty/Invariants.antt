@@ -1,0 +1,17 @@
+-- `order::standing::lowest_empty` meets its contract. The loop's invariant: the lowest empty line from i on is the lowest of all.
+use mathlib.Core.Path.{◌≡◌, refl, sym, ◌∙◌}
+use Prim.Native.Nat.{◌-◌, ◌≤◌}
+use native.Mathlib.Nat.{sub-zero}
+use native.Mathlib.Omega.{arith}
+use borrow.Author.Rules.{rules}
+use Rattle.session.specs.Cells.{end_before}
+use Rattle.order.specs.Empty.{lowest_empty}
+use Rattle.walk.proofs.LineWalk.{end-next}
+use Rattle.order.proofs.EmptyLines.{empty_here, not_here, none_empty}
+use Rattle.order.proofs.standing.lowest_empty.Given as goal
+
+abbrev pub invariant-loop-i : goal.invariant-loop-i
+invariant-loop-i l = (l.i ≤ l.count) × (l.from ≡ end_before l.lines l.i) × (lowest_empty l.lines l.i (l.count - l.i) ≡ lowest_empty l.lines 0 l.count)
+
+abbrev pub decreases-loop-i : goal.decreases-loop-i
+decreases-loop-i l = l.count - l.i

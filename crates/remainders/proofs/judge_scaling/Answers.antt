@@ -1,0 +1,42 @@
+-- `remainders::judge_scaling` meets its contract.
+use mathlib.Core.Path.{ap, ◌∙◌}
+use native.Mathlib.Omega.{arith}
+use borrow.Author.Rules.{sfits_of}
+use borrow.Author.Tests.{le-leb, lt-leb}
+use lib.IntN.{ℤ, pos}
+use mir.Syntax.{w32}
+use mir.Val.{SFits}
+use mir.ValLaws.{to_z-of_z}
+use Rattle.rows.specs.Limits.{unknowns}
+use Rattle.rows.specs.Form.{is_divided, form_at}
+use Rattle.rows.specs.Conditions.{scales}
+use Rattle.ledger.specs.Checks.{both_are}
+use Rattle.rules.specs.Read.{forms_in}
+use Rattle.rules.proofs.FindingWalk.{whole, past, fails, goes_on}
+use Rattle.rules.proofs.FieldLaws.{fails-first, others_decide, both_inside, then_forms}
+use borrow.Author.Rules.{rules}
+use Rattle.remainders.proofs.judge_scaling.Goals as goal
+
+pub returns-in-Fail : goal.returns-in-Fail
+returns-in-Fail c =
+    let a = c.args in
+    fails-first (both_are (forms_in unknowns a.count a.forms.now) is_divided a.g is_divided a.h) _ c.both_are-both.ensures c.in-Fail.is
+
+pub returns-then-k-lt1 : goal.returns-then-k-lt1
+returns-then-k-lt1 c =
+    let a = c.args in
+    others_decide (both_are (forms_in unknowns a.count a.forms.now) is_divided a.g is_divided a.h) _ c.both_are-both.ensures c.in_default.is (fails whole (lt-leb 1 a.k c.if-k-lt1.true))
+
+pub scales-requires : goal.scales-requires
+scales-requires c = both_inside c.requires is_divided is_divided c.args.g c.args.h c.both_are-both.ensures c.in_default.is
+
+pub returns : goal.returns
+returns c =
+    let a = c.args in
+    let passed = c.in_default.is in
+    let fit : SFits w32 (pos a.k) = sfits_of (omega (arith, c.ranges.k)) in
+    let forms = a.forms.now in
+    let gave = c.scales.ensures ∙ ap (λ (k : ℤ). scales k (form_at unknowns forms a.g) (form_at unknowns forms a.h)) (to_z-of_z w32 (pos a.k) fit) in
+    others_decide (both_are (forms_in unknowns a.count a.forms.now) is_divided a.g is_divided a.h) _ c.both_are-both.ensures passed
+    (goes_on (past whole (le-leb 1 a.k c.if-k-lt1.false))
+    (then_forms c.requires is_divided is_divided a.g a.h c.both_are-both.ensures passed (scales (pos a.k)) gave c.holds.ensures))

@@ -141,7 +141,7 @@ reaches c =
 
 -- the constant, from its bits
 constant-is : (c : In-Constant) → to_z w64 (of_z w64 c.in-Constant.k) ≡ c.in-Constant.k
-constant-is c = to_z-of_z w64 c.in-Constant.k (sfits_of c.known_told-1.given.0.1)
+constant-is c = to_z-of_z w64 c.in-Constant.k (sfits_of c.in-Constant.known_told-1-own.given.0.1)
 
 pub is_multiple-requires : goal.is_multiple-requires
 is_multiple-requires c =

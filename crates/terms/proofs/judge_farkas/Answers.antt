@@ -95,18 +95,18 @@ returns-in-Coefficient c =
 
 -- the constant, from its bits
 constant-is : (c : In-Constant) → to_z w64 (of_z w64 c.in-Constant.k) ≡ c.in-Constant.k
-constant-is c = to_z-of_z w64 c.in-Constant.k (sfits_of c.known_told-1.given.0.1)
+constant-is c = to_z-of_z w64 c.in-Constant.k (sfits_of c.in-Constant.known_told-1-own.given.0.1)
 
 pub returns-then-k-lt1 : goal.returns-then-k-lt1
 returns-then-k-lt1 c =
-    let k = c.k-1.given in
+    let k = c.in-Constant in
     let p = c.requires in
-    let below = lt→not-le k.0.0 (pos 1) (rw (constant-is (goal.at.returns-then-k-lt1 c).In-Constant) at c.if-k-lt1.true) in
-    farkas_found p.0 p.1 (fails (past_allowed (goal.at.returns-then-k-lt1 c).Else-not-terms_allowed) (farkas-reached _ k.0.0 (sym c.combine.ensures ∙ k.1) ∙ below))
+    let below = lt→not-le k.k (pos 1) (rw (constant-is (goal.at.returns-then-k-lt1 c).In-Constant) at c.if-k-lt1.true) in
+    farkas_found p.0 p.1 (fails (past_allowed (goal.at.returns-then-k-lt1 c).Else-not-terms_allowed) (farkas-reached _ k.k (sym c.combine.ensures ∙ k.is) ∙ below))
 
 pub returns-else-k-lt1 : goal.returns-else-k-lt1
 returns-else-k-lt1 c =
-    let k = c.k-1.given in
+    let k = c.in-Constant in
     let p = c.requires in
-    let least = not-lt→le k.0.0 (pos 1) (rw (constant-is (goal.at.returns-else-k-lt1 c).In-Constant) at c.if-k-lt1.false) in
-    farkas_found p.0 p.1 (passes (past (past_allowed (goal.at.returns-else-k-lt1 c).Else-not-terms_allowed) (farkas-reached _ k.0.0 (sym c.combine.ensures ∙ k.1) ∙ least)))
+    let least = not-lt→le k.k (pos 1) (rw (constant-is (goal.at.returns-else-k-lt1 c).In-Constant) at c.if-k-lt1.false) in
+    farkas_found p.0 p.1 (passes (past (past_allowed (goal.at.returns-else-k-lt1 c).Else-not-terms_allowed) (farkas-reached _ k.k (sym c.combine.ensures ∙ k.is) ∙ least)))

@@ -21,7 +21,7 @@ abbrev present : At-loop-bytes → Session
 present a = session_with a.loop-bytes.counts a.loop-bytes.«open» a.loop-bytes.marks
 
 abbrev left : After-front_step-step → Tables
-left c = let l = c.front_step-step.new.pool in tables l.0 l.1.0 l.1.1.0
+left c = tables c.front_step-step.new.forms c.front_step-step.new.pool c.front_step-step.new.lines
 
 seen : (c : After-last_place) →
     let s = present (goal.at.After-last_place c).At-loop-bytes in
@@ -55,7 +55,7 @@ pub overflow_add-counted : goal.overflow_add-counted
 overflow_add-counted c = omega (arith, c.loop-bytes.invariant.0.few, c.loop-bytes.invariant.0.within, c.loop-bytes-test.true)
 
 pub overflow_add-end : goal.overflow_add-end
-overflow_add-end c = omega (arith, (turned (goal.at.overflow_add-end c).After-front_step-step).within, c.good.1.1.1.1.0)
+overflow_add-end c = omega (arith, (turned (goal.at.overflow_add-end c).After-front_step-step).within)
 
 pub shape_of-forms-in-Refused : goal.shape_of-forms-in-Refused
 shape_of-forms-in-Refused c = (turned (goal.at.shape_of-forms-in-Refused c).After-front_step-step).held.exact.sized.form-size ∙ sym c.requires.exact.sized.form-size

@@ -1,0 +1,17 @@
+-- `plain::session_in` meets its contract. Invariant: the first i marks have crossed.
+use mathlib.Core.Path.{◌≡◌, ap}
+use mathlib.Core.List.{map}
+use Prim.Native.Nat.{◌-◌, ◌≤◌, ◌<◌}
+use native.Mathlib.Omega.{arith}
+use lib.ListN.{length, take, length-map, length-set}
+use borrow.Author.Rules.{rules}
+use Rattle.ledger.specs.Limits.{most_levels}
+use Rattle.zarnowiej.specs.Crossing.{mark_in}
+use Rattle.zarnowiej.proofs.MarksCross.{crosses, all_cross}
+use Rattle.zarnowiej.proofs.plain.session_in.Given as goal
+
+abbrev pub invariant-loop-i : goal.invariant-loop-i
+invariant-loop-i l = (l.i ≤ most_levels) × (length l.marks ≡ most_levels) × (take l.i l.marks ≡ map mark_in (take l.i l.s.marks))
+
+abbrev pub decreases-loop-i : goal.decreases-loop-i
+decreases-loop-i l = most_levels - l.i

@@ -1,18 +1,17 @@
-// The four calls for programs in C and Rust. A slice crosses as an address and a count of cells, sessions and answers as the plain structs of
-// plain.rt, which say what their numbers mean. Each call has the contract of the call that it stands for, through the translation of
-// specs/Crossing.antt, and asks nothing of its caller: any lengths, any cells, any session and any bytes are answered.
+// The four calls for programs in C and Rust, which the crate zarnowiej_c exports. Sessions and answers are the plain structs of plain.rt, which
+// say what their numbers mean. Each call has the contract of the call that it stands for, through the translation of specs/Crossing.antt, and
+// asks nothing of its caller: any lengths, any cells, any session and any bytes are answered.
 #![tactic(auto)]
 
 mod plain;
 
+pub use plain::{Begun, Fed, Mark, Ran, Session, Stands};
+
 ghost use Rattle.session.specs.Cells.{tables};
 ghost use Rattle.zarnowiej.specs.Crossing.{StartCrosses, FeedCrosses, RunCrosses, StandingCrosses};
 
-use crate::plain::{Begun, Fed, Ran, Session, Stands};
-
 // The start: a fresh session, and every named cell becomes 0. Refused with 1 where a table is too short.
-#[unsafe(no_mangle)]
-pub extern "C" fn zarnowiej_start(forms: &mut [i32], pool: &mut [u16], lines: &mut [u16]) -> Begun
+pub fn zarnowiej_start(forms: &mut [i32], pool: &mut [u16], lines: &mut [u16]) -> Begun
     ensures { StartCrosses (tables forms.old pool.old lines.old) result (tables forms.new pool.new lines.new) }
 {
     let begun = session::start::start(forms, pool, lines);
@@ -22,8 +21,7 @@ pub extern "C" fn zarnowiej_start(forms: &mut [i32], pool: &mut [u16], lines: &m
 }
 
 // One record: refused, or what it made and the session afterwards.
-#[unsafe(no_mangle)]
-pub extern "C" fn zarnowiej_feed(
+pub fn zarnowiej_feed(
     s: Session,
     forms: &mut [i32],
     pool: &mut [u16],
@@ -40,8 +38,7 @@ pub extern "C" fn zarnowiej_feed(
 }
 
 // A stream of records, up to its end or to the first that is refused: the accepted totals, what stopped it and the session afterwards.
-#[unsafe(no_mangle)]
-pub extern "C" fn zarnowiej_run(
+pub fn zarnowiej_run(
     s: Session,
     forms: &mut [i32],
     pool: &mut [u16],
@@ -58,8 +55,7 @@ pub extern "C" fn zarnowiej_run(
 }
 
 // The standing: refuted by the lowest empty line, not refuted, or refused with 1 or 2. It writes nothing.
-#[unsafe(no_mangle)]
-pub extern "C" fn zarnowiej_standing(
+pub fn zarnowiej_standing(
     s: Session,
     forms: &[i32],
     pool: &[u16],

@@ -130,9 +130,9 @@ module _ (n : ℕ) (l : Ledger) where
   three_is_short b e = elim (cut b) [
     | whole p h same ↦ absurd (apply-beyond n l (decode (front_record b)) (rw p at e))
     | wrong j f p ↦
-      let Failed : List ℕ → Type 0 = λ (x : List ℕ). finding (shape (front_record x)) ≡ fail j in
-      let here : Failed b = subst Failed (append-nil b) (p []) in
-      let q = failed n l (front_record b) here in
-      absurd (f (cc))
+        let Failed : List ℕ → Type 0 = λ (x : List ℕ). finding (shape (front_record x)) ≡ fail j in
+        let here : Failed b = subst Failed (append-nil b) (p []) in
+        let q = failed n l (front_record b) here in
+        absurd (f (cc))
     | short p h ↦ h
   ]

@@ -7,7 +7,7 @@ use Prim.Native.Nat.{ℕ, ◌≤◌, ◌<◌}
 use lib.Dec.{T, eqb, ltb→lt, lt→ltb}
 use lib.IntN.{pos}
 use lib.ListN.{length, get_or, length-map}
-use Rattle.ints.specs.Tests.{eq_z, all, different}
+use Rattle.ints.specs.Tests.{eq_z, different}
 use Rattle.ints.proofs.Bools.{T_and, and_T}
 use Rattle.ints.proofs.Lists.{all_at, all_from}
 use Rattle.ints.proofs.Order.{eq_z→eq, eq_z-refl}

@@ -9,7 +9,7 @@ use Rattle.ledger.specs.Limits.{most_forms, most_lines, most_literals, most_leve
 use Rattle.ledger.specs.Literals.{unnegated, negated, form_named, ascending, holds, joined, line_of, without}
 use Rattle.ledger.specs.Ledger.{Line, premise, derived, Ledger, nth_form, nth_row, nth_line, literal_count, New, new_form, new_line}
 use Rattle.ledger.specs.Record.{Rule, FM, PM, RS, FK, TO, TR, EQ, TI, WK, CL, AR, LF, SU, SD}
-use Rattle.ledger.specs.Record.{Record, make, OP, WD, RecordMark, layout, form, marks}
+use Rattle.ledger.specs.Record.{Record, make, OP, WD, RecordMark, layout}
 
 -- a test, and the refusal's number where it fails
 pub record Check : Type 0 where

@@ -5,7 +5,6 @@ use Rattle.rows.specs.Form.{legal}
 use Rattle.ledger.specs.Limits.{most_forms, most_lines, most_literals, most_levels, longest_line}
 use Rattle.ledger.specs.Literals.{ascending, names_below}
 use Rattle.ledger.specs.Ledger.{Line, no_line, Mark, Ledger, literal_count, is_origin}
-use Rattle.ledger.specs.Record.{marks}
 
 abbrev pub line_below : ℕ → Line → Bool
 line_below n x = names_below n x.literals

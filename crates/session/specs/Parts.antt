@@ -1,5 +1,5 @@
 -- What only the parts of the code say of a session and its tables: sizes, limits by their names, edges between levels.
-use Rattle.std.specs.Prelude.{◌≡◌, cond, Bool, true, ◌&&◌, List, [], ◌∷◌, ℕ, ◌-◌, ◌≤◌, ltb, pos, length}
+use Rattle.std.specs.Prelude.{◌≡◌, cond, Bool, true, ◌&&◌, List, [], ◌∷◌, ℕ, ◌≤◌, ltb, pos, length}
 use Rattle.rows.specs.Limits.{unknowns, largest_number, largest_divisor, largest_multiplier, most_terms}
 use Rattle.ledger.specs.Limits.{most_forms, most_lines, most_literals, most_levels, longest_line}
 use Rattle.ledger.specs.Checks.{Check}

@@ -1,9 +1,6 @@
-use Rattle.fields.proofs.FilledLaws.{Filled, filled_none, filled_one}
-use Rattle.ledger.specs.Bytes.{byte_at, u16_at}
-use Rattle.ledger.specs.Limits.{longest_line}
-use borrow.Author.Rules.{rules}
+use Rattle.fields.proofs.FilledLaws.{filled_none, filled_one}
+use Rattle.ledger.specs.Bytes.{byte_at}
 use native.Mathlib.Omega.{arith}
-use Prim.Native.Nat.{◌≤◌, ◌+◌, ◌*◌, ◌-◌}
 use mathlib.Core.Path.{◌≡◌}
 use Rattle.fields.proofs.read_numbers.Goals as goal
 

@@ -1,10 +1,7 @@
-use Rattle.fields.proofs.FilledLaws.{Filled, filled_none, filled_one}
-use Rattle.ledger.specs.Bytes.{byte_at, u16_at}
+use Rattle.fields.proofs.FilledLaws.{Filled}
+use Rattle.ledger.specs.Bytes.{u16_at}
 use Rattle.ledger.specs.Limits.{longest_line}
-use borrow.Author.Rules.{rules}
-use native.Mathlib.Omega.{arith}
 use Prim.Native.Nat.{◌≤◌, ◌+◌, ◌*◌, ◌-◌}
-use mathlib.Core.Path.{◌≡◌}
 use Rattle.fields.proofs.read_numbers.Given as goal
 
 abbrev pub invariant-loop-i : goal.invariant-loop-i

@@ -1,12 +1,10 @@
 use mathlib.Core.Path.{◌≡◌, refl, ◌∙◌}
-use Prim.Native.Nat.{◌≤◌, ◌+◌, ◌*◌, ◌-◌}
 use native.Mathlib.Omega.{arith}
-use borrow.Author.Rules.{sfits_of, rules}
+use borrow.Author.Rules.{sfits_of}
 use mir.Syntax.{w32}
 use mir.ValLaws.{to_z-of_z}
-use Rattle.rows.specs.Limits.{most_terms}
-use Rattle.ledger.specs.Bytes.{byte_at, u16_at, i32_at}
-use Rattle.fields.proofs.FilledLaws.{Filled, filled_none, filled_one, filled_terms}
+use Rattle.ledger.specs.Bytes.{byte_at}
+use Rattle.fields.proofs.FilledLaws.{filled_none, filled_one, filled_terms}
 use Rattle.fields.proofs.read_terms.Goals as goal
 
 pub loop-i-init : goal.loop-i-init

@@ -9,14 +9,10 @@ use mir.Val.{of_z, SFits}
 use mir.ValLaws.{to_z-of_z}
 use mathlib.Core.Path.{sym, ap, ap₂, ◌∙◌}
 use Rattle.rows.proofs.SumLaws.{plus_step, plus_over, same_at, same_from}
-use mathlib.Core.List.{◌++◌}
-use Prim.Native.Nat.{◌≤◌, ◌-◌}
-use lib.ListN.{length, take, drop}
 use mathlib.Core.Path.{◌≡◌}
 use mir.Syntax.{w32, w64}
 use mir.Val.{to_z}
 use Rattle.rows.specs.Row.{plus, scaled}
-use borrow.Author.Rules.{rules}
 use Rattle.sums.proofs.add_scaled.Goals as goal
 
 pub plus_times-requires : goal.plus_times-requires

@@ -5,7 +5,6 @@ use mir.ValLaws.{to_z-of_z}
 use Rattle.rows.specs.Limits.{unknowns}
 use Rattle.rows.specs.Summable.{reached}
 use Rattle.rows.proofs.SumLaws.{small_sums}
-use borrow.Author.Rules.{rules}
 use Rattle.sums.proofs.combine.Goals as goal
 
 pub lowest-requires : goal.lowest-requires

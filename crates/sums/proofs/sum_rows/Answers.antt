@@ -1,20 +1,18 @@
 -- `sums::sum_rows` meets its contract. Invariant: the terms from i on, added to the sums so far, give the whole sum.
 use mathlib.Core.Path.{◌≡◌, refl, sym, ◌∙◌}
-use Prim.Native.Nat.{◌+◌, ◌*◌, ◌-◌, ◌≤◌}
+use Prim.Native.Nat.{◌+◌, ◌*◌}
 use native.Mathlib.Omega.{arith}
-use borrow.Author.Rules.{rules, sfits_of}
+use borrow.Author.Rules.{sfits_of}
 use lib.IntN.{pos}
-use lib.ListN.{length, get_or, drop}
+use lib.ListN.{get_or}
 use mir.Syntax.{w32}
 use mir.Val.{SFits}
 use mir.ValLaws.{to_z-of_z}
 use Rattle.rows.specs.Limits.{unknowns}
 use Rattle.rows.specs.Row.{plus, scaled}
 use Rattle.rows.specs.Summable.{row_at}
-use Rattle.rows.specs.Summable.{terms}
-use Rattle.rows.specs.Sum.{summed_onto, summed}
 use Rattle.rows.proofs.TermLaws.{summand_at}
-use Rattle.rows.proofs.SumLaws.{Within, largest_term, within-zeros, grown, room, length_grown, sum_step, sum_over}
+use Rattle.rows.proofs.SumLaws.{largest_term, within-zeros, grown, room, length_grown, sum_step, sum_over}
 use Rattle.sums.proofs.sum_rows.Goals as goal
 
 pub loop-i-init : goal.loop-i-init

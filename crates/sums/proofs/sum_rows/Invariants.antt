@@ -1,20 +1,12 @@
 -- `sums::sum_rows` meets its contract. Invariant: the terms from i on, added to the sums so far, give the whole sum.
-use mathlib.Core.Path.{◌≡◌, refl, sym, ◌∙◌}
+use mathlib.Core.Path.{◌≡◌}
 use Prim.Native.Nat.{◌+◌, ◌*◌, ◌-◌, ◌≤◌}
-use native.Mathlib.Omega.{arith}
-use borrow.Author.Rules.{rules, sfits_of}
-use lib.IntN.{pos}
-use lib.ListN.{length, get_or, drop}
-use mir.Syntax.{w32}
-use mir.Val.{SFits}
-use mir.ValLaws.{to_z-of_z}
+use lib.ListN.{length, drop}
 use Rattle.rows.specs.Limits.{unknowns}
-use Rattle.rows.specs.Row.{plus, scaled}
 use Rattle.rows.specs.Summable.{row_at}
 use Rattle.rows.specs.Summable.{terms}
 use Rattle.rows.specs.Sum.{summed_onto, summed}
-use Rattle.rows.proofs.TermLaws.{summand_at}
-use Rattle.rows.proofs.SumLaws.{Within, largest_term, within-zeros, grown, room, length_grown, sum_step, sum_over}
+use Rattle.rows.proofs.SumLaws.{Within, largest_term}
 use Rattle.sums.proofs.sum_rows.Given as goal
 
 abbrev pub invariant-loop-i : goal.invariant-loop-i

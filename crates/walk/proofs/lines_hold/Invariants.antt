@@ -1,18 +1,12 @@
 -- `walk::lines_hold` meets its contract. The outer loop's invariant: every line passed is right, over the n forms with 2 n = `bound`,
 -- and `from` is where line k begins. The inner one's: the test of the literals from i on, each at least `least`, is the test of the line's.
-use mathlib.Core.Path.{◌≡◌, refl, sym, ◌∙◌}
-use mathlib.Core.Bool.{true, false}
-use Prim.Native.Nat.{ℕ, suc, ◌*◌, ◌-◌, ◌≤◌, ◌<◌}
-use native.Mathlib.Omega.{arith}
-use borrow.Author.Rules.{rules}
-use lib.ListN.{get_or}
+use mathlib.Core.Path.{◌≡◌}
+use mathlib.Core.Bool.{true}
+use Prim.Native.Nat.{ℕ, ◌*◌, ◌-◌, ◌≤◌, ◌<◌}
 use lib.Seq.{slice}
-use Rattle.session.specs.Limits.{line_cells}
-use Rattle.session.specs.Cells.{end_before, origin_at}
-use Rattle.walk.specs.Walk.{Exactly, LineGood, LinesGood}
-use Rattle.walk.proofs.Says.{say_yes, say_no}
-use Rattle.walk.proofs.LineWalk.{literals_hold, literal_low, literal_high, literal_good, literals_over}
-use Rattle.walk.proofs.LineWalk.{origin→le, good-line, bad_literals, end-next, rising, one_more}
+use Rattle.session.specs.Cells.{end_before}
+use Rattle.walk.specs.Walk.{LineGood}
+use Rattle.walk.proofs.LineWalk.{literals_hold}
 use Rattle.walk.proofs.lines_hold.Given as goal
 
 abbrev pub invariant-loop-i : goal.invariant-loop-i

@@ -1,7 +1,6 @@
 -- `conditions::compare::is_either` meets its contract.
 use mathlib.Core.Path.{sym, ◌∙◌}
 use lib.IntN.{negsuc}
-use borrow.Author.Rules.{rules}
 use Rattle.rows.specs.Limits.{unknowns}
 use Rattle.rows.proofs.RowLaws.{unshifted, filled}
 use Rattle.conditions.proofs.compare.is_either.Goals as goal

@@ -7,7 +7,7 @@ use lib.ListN.{get_or}
 use mir.Syntax.{w32}
 use mir.Val.{SFits}
 use mir.ValLaws.{to_z-of_z}
-use borrow.Author.Rules.{rules, sfits_of}
+use borrow.Author.Rules.{sfits_of}
 use borrow.Author.Tests.{not-true, not-false}
 use Rattle.ints.specs.Tests.{eq_zs}
 use Rattle.rows.specs.Row.{scaled, shifted}

@@ -1,5 +1,4 @@
 -- `conditions::compare::is_one_minus` meets its contract.
-use borrow.Author.Rules.{rules}
 use Rattle.conditions.proofs.compare.is_one_minus.Goals as goal
 
 pub returns : goal.returns

@@ -1,5 +1,4 @@
 -- `conditions::compare::is_one_more` meets its contract.
-use borrow.Author.Rules.{rules}
 use Rattle.rows.proofs.RowLaws.{scaled_one}
 use Rattle.conditions.proofs.compare.is_one_more.Goals as goal
 

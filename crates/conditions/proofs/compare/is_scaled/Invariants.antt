@@ -1,18 +1,10 @@
 -- `conditions::compare::is_scaled` meets its contract. The loop's invariant: comparing the cells from i on is comparing all of them.
-use mathlib.Core.Path.{◌≡◌, refl, sym, ◌∙◌}
-use mathlib.Core.Bool.{Bool, ◌&&◌}
-use Prim.Native.Nat.{◌+◌, ◌-◌, ◌≤◌}
-use native.Mathlib.Omega.{arith}
-use lib.IntN.{pos}
-use lib.ListN.{length, get_or}
-use mir.Syntax.{w32}
-use mir.Val.{to_z, SFits}
-use mir.ValLaws.{to_z-of_z}
-use borrow.Author.Rules.{rules, sfits_of}
-use borrow.Author.Tests.{not-true, not-false}
+use mathlib.Core.Path.{◌≡◌}
+use Prim.Native.Nat.{◌-◌, ◌≤◌}
+use lib.ListN.{length}
 use Rattle.ints.specs.Tests.{eq_zs}
 use Rattle.rows.specs.Row.{scaled}
-use Rattle.rows.proofs.RowLaws.{unequal, rest, rest_step, rest_over}
+use Rattle.rows.proofs.RowLaws.{rest}
 use Rattle.conditions.proofs.compare.is_scaled.Given as goal
 
 abbrev pub invariant-loop-i : goal.invariant-loop-i

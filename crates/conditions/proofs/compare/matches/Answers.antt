@@ -2,7 +2,6 @@
 use mir.Syntax.{w32}
 use mir.Val.{SFits}
 use mir.ValLaws.{to_z-of_z}
-use borrow.Author.Rules.{rules}
 use Rattle.rows.specs.Limits.{unknowns}
 use Rattle.rows.proofs.RowLaws.{filled}
 use Rattle.conditions.proofs.compare.matches.Goals as goal

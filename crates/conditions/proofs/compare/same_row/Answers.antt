@@ -1,6 +1,5 @@
 -- `conditions::compare::same_row` meets its contract.
 use lib.IntN.{pos}
-use borrow.Author.Rules.{rules}
 use Rattle.rows.specs.Limits.{unknowns}
 use Rattle.rows.proofs.RowLaws.{scaled_one, unshifted, filled}
 use Rattle.conditions.proofs.compare.same_row.Goals as goal

@@ -9,7 +9,6 @@ use mir.ValLaws.{to_z-of_z}
 use Rattle.ints.proofs.Bits.{widened, widened_fits}
 use Rattle.ints.proofs.Size.{size_32}
 use Rattle.rows.specs.Conditions.{loosens}
-use borrow.Author.Rules.{rules}
 use Rattle.conditions.proofs.divided.loosens.Goals as goal
 
 pub returns-then-not-same_row : goal.returns-then-not-same_row

@@ -10,7 +10,6 @@ use Rattle.rows.specs.Limits.{unknowns}
 use Rattle.rows.specs.Row.{scaled}
 use Rattle.rows.specs.Form.{form_at}
 use Rattle.rows.specs.Conditions.{same_row, scales}
-use borrow.Author.Rules.{rules}
 use Rattle.conditions.proofs.divided.scales.Goals as goal
 use Rattle.conditions.proofs.divided.scales.Goals.{After-is_scaled}
 

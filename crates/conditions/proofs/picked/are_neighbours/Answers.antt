@@ -2,21 +2,21 @@
 use mathlib.Core.Path.{◌≡◌, sym, ap, ◌∙◌}
 use mathlib.Core.Bool.{Bool, ◌&&◌}
 use mathlib.Core.List.{map}
-use Prim.Native.Nat.{◌+◌, ◌-◌, ◌≤◌}
+use Prim.Native.Nat.{◌+◌}
 use native.Mathlib.Omega.{arith}
 use borrow.Author.Tests.{not-true, not-false}
 use lib.IntN.{ℤ, pos}
 use mir.Syntax.{w32}
 use mir.Val.{SFits}
 use mir.ValLaws.{to_z-of_z}
-use lib.ListN.{length, get_or, drop}
+use lib.ListN.{get_or, drop}
 use Rattle.rows.specs.Limits.{unknowns}
 use Rattle.rows.specs.Summable.{row_at}
 use Rattle.rows.specs.Conditions.{same_row, neighbours_from, neighbours}
 use Rattle.rows.specs.Row.{shifted}
 use Rattle.rows.proofs.RowLaws.{scaled_one}
 use Rattle.rows.proofs.Remainders.{neighbours-all, neighbours-step, neighbours_over}
-use borrow.Author.Rules.{rules, sfits_of}
+use borrow.Author.Rules.{sfits_of}
 use Rattle.conditions.proofs.picked.are_neighbours.Goals as goal
 use Rattle.conditions.proofs.picked.are_neighbours.Goals.{After-matches}
 

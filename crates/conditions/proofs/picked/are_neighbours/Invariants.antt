@@ -1,22 +1,11 @@
 -- `conditions::picked::are_neighbours` meets its contract. The loop's invariant: the test of the rows from place i on is the test of all.
-use mathlib.Core.Path.{◌≡◌, sym, ap, ◌∙◌}
-use mathlib.Core.Bool.{Bool, ◌&&◌}
+use mathlib.Core.Path.{◌≡◌}
 use mathlib.Core.List.{map}
-use Prim.Native.Nat.{◌+◌, ◌-◌, ◌≤◌}
-use native.Mathlib.Omega.{arith}
-use borrow.Author.Tests.{not-true, not-false}
-use lib.IntN.{ℤ, pos}
-use mir.Syntax.{w32}
-use mir.Val.{SFits}
-use mir.ValLaws.{to_z-of_z}
-use lib.ListN.{length, get_or, drop}
+use Prim.Native.Nat.{◌-◌, ◌≤◌}
+use lib.ListN.{length, drop}
 use Rattle.rows.specs.Limits.{unknowns}
 use Rattle.rows.specs.Summable.{row_at}
-use Rattle.rows.specs.Conditions.{same_row, neighbours_from, neighbours}
-use Rattle.rows.specs.Row.{shifted}
-use Rattle.rows.proofs.RowLaws.{scaled_one}
-use Rattle.rows.proofs.Remainders.{neighbours-all, neighbours-step, neighbours_over}
-use borrow.Author.Rules.{rules, sfits_of}
+use Rattle.rows.specs.Conditions.{neighbours_from, neighbours}
 use Rattle.conditions.proofs.picked.are_neighbours.Given as goal
 
 abbrev pub invariant-loop-i : goal.invariant-loop-i

@@ -1,18 +1,11 @@
 -- `conditions::picked::divisors_are` meets its contract. Invariant: the test of the forms from i on is the test of all.
-use mathlib.Core.Path.{◌≡◌, refl, sym, ap, ap₂, ◌∙◌}
+use mathlib.Core.Path.{◌≡◌}
 use mathlib.Core.Bool.{Bool}
 use mathlib.Core.List.{List}
 use Prim.Native.Nat.{ℕ, ◌-◌, ◌≤◌}
-use native.Mathlib.Omega.{arith}
-use borrow.Author.Rules.{rules, sfits_of}
 use lib.IntN.{ℤ}
-use lib.ListN.{length, get_or, drop}
-use mir.Syntax.{w32}
-use mir.Val.{to_z, of_z}
-use mir.ValLaws.{to_z-of_z}
+use lib.ListN.{length, drop}
 use Rattle.ints.specs.Tests.{eq_z, all}
-use Rattle.ints.proofs.Bits.{bits-same, bits_differ}
-use Rattle.ints.proofs.Lists.{all-fails, all-next, all_over}
 use Rattle.rows.specs.Limits.{unknowns}
 use Rattle.rows.specs.Form.{form_at}
 use Rattle.conditions.proofs.picked.divisors_are.Given as goal

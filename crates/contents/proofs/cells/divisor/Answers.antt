@@ -5,7 +5,6 @@ use mir.Syntax.{w32}
 use mir.ValLaws.{to_z-of_z}
 use Rattle.rows.specs.Limits.{unknowns}
 use Rattle.rows.proofs.FormCells.{divisor_at}
-use borrow.Author.Rules.{rules}
 use Rattle.contents.proofs.cells.divisor.Goals as goal
 
 pub returns : goal.returns

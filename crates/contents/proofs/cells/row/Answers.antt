@@ -1,7 +1,6 @@
 -- `contents::cells::row` meets its contract.
 use Rattle.rows.specs.Limits.{unknowns}
 use Rattle.rows.proofs.FormCells.{row_at_lem}
-use borrow.Author.Rules.{rules}
 use Rattle.contents.proofs.cells.row.Goals as goal
 
 pub returns : goal.returns

@@ -1,15 +1,8 @@
 -- `contents::content::all_in_range` meets its contract. The loop's invariant: the test of the cells from i on is the test of all.
-use mathlib.Core.Path.{◌≡◌, refl, sym, ap, ◌∙◌}
+use mathlib.Core.Path.{◌≡◌}
 use Prim.Native.Nat.{◌-◌, ◌≤◌}
-use native.Mathlib.Omega.{arith}
-use borrow.Author.Rules.{rules, sfits_of}
-use borrow.Author.Tests.{not-true, not-false}
-use lib.IntN.{ℤ, pos}
-use lib.ListN.{length, get_or, drop}
-use mir.Syntax.{w32}
-use mir.ValLaws.{to_z-of_z}
+use lib.ListN.{length, drop}
 use Rattle.ints.specs.Tests.{all}
-use Rattle.ints.proofs.Lists.{all-fails, all-next, all_over}
 use Rattle.rows.specs.Form.{in_range}
 use Rattle.contents.proofs.content.all_in_range.Given as goal
 

@@ -1,6 +1,5 @@
 -- `contents::content::in_range` meets its contract.
 use mathlib.Core.Path.{ap, ◌∙◌}
-use borrow.Author.Rules.{rules}
 use mir.Syntax.{w32}
 use mir.ValLaws.{to_z-of_z}
 use Rattle.rows.specs.Form.{in_range}

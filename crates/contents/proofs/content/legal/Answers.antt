@@ -4,7 +4,7 @@ use mathlib.Core.Bool.{Bool, false, ◌&&◌, and-true, and-false, and_assoc}
 use mathlib.Core.List.{List}
 use Prim.Native.Nat.{ℕ, ◌+◌, ◌-◌}
 use native.Mathlib.Omega.{arith}
-use borrow.Author.Rules.{rules, sfits_of}
+use borrow.Author.Rules.{sfits_of}
 use borrow.Author.Tests.{not-true, not-false, eq-eqb, ne_eqb}
 use lib.IntN.{ℤ, pos}
 use lib.ListN.{length, get_or, drop, length-drop}

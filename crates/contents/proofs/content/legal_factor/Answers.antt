@@ -1,6 +1,5 @@
 -- `contents::content::legal_factor` meets its contract.
 use mathlib.Core.Path.{ap, ◌∙◌}
-use borrow.Author.Rules.{rules}
 use lib.IntN.{pos}
 use mir.Syntax.{w32}
 use mir.ValLaws.{to_z-of_z}

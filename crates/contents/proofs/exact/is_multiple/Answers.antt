@@ -6,7 +6,6 @@ use lib.Dec.{eqb}
 use lib.IntN.{nat_abs}
 use mir.Syntax.{w32, w64}
 use mir.ValLaws.{to_z-of_z}
-use borrow.Author.Rules.{rules}
 use Rattle.contents.proofs.exact.is_multiple.Goals as goal
 
 -- the two sizes are those of the parameters

@@ -1,6 +1,5 @@
 -- `byte_at` meets its contract.
 use mathlib.Core.Path.{sym}
-use borrow.Author.Rules.{rules}
 use lib.ListN.{get_or-eq_default}
 use Rattle.fields.proofs.numbers.byte_at.Goals as goal
 

@@ -1,7 +1,6 @@
 -- `i32_at` meets its contract: the lower half of the numbers of 32 bits are those from 0 up, the upper half those below 0.
 use Prim.Native.Nat.{◌+◌, ◌*◌}
 use native.Mathlib.Omega.{arith}
-use borrow.Author.Rules.{rules}
 use Rattle.fields.proofs.SignedLaws.{lower_half, upper_fits, upper_half}
 use Rattle.fields.proofs.numbers.i32_at.Goals as goal
 

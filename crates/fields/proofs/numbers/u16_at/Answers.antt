@@ -1,7 +1,6 @@
 -- `u16_at` meets its contract: two bytes, each below 256, do not wrap.
 use Prim.Native.Nat.{◌+◌}
 use native.Mathlib.Omega.{arith}
-use borrow.Author.Rules.{rules}
 use Rattle.fields.proofs.numbers.u16_at.Goals as goal
 
 pub overflow_cast-result : goal.overflow_cast-result

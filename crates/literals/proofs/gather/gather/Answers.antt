@@ -1,14 +1,10 @@
 -- `literals::gather::gather` meets its contract. Invariant: what is filled in, then what is left of the line less the literal, is the whole.
-use mathlib.Core.Path.{◌≡◌, refl}
+use mathlib.Core.Path.{refl}
 use mathlib.Core.Bool.{Bool, not}
-use mathlib.Core.List.{◌++◌}
-use Prim.Native.Nat.{◌-◌, ◌≤◌}
 use native.Mathlib.Omega.{arith}
-use borrow.Author.Rules.{rules}
 use lib.Dec.{eqb}
-use lib.ListN.{length, get_or, take, drop, length-set}
+use lib.ListN.{get_or, length-set}
 use Rattle.ints.proofs.Bools.{at_most_one}
-use Rattle.ledger.specs.Literals.{without}
 use Rattle.literals.proofs.LessLaws.{fills, filled}
 use Rattle.literals.proofs.gather.gather.Goals as goal
 use Rattle.literals.proofs.gather.gather.Goals.{After-shared_slice_known-1}

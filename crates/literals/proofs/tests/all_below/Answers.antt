@@ -1,13 +1,9 @@
 -- `literals::tests::all_below` meets its contract. The loop's invariant: the test of the forms from i on is the test of all.
-use mathlib.Core.Path.{◌≡◌, refl, sym, ◌∙◌}
-use mathlib.Core.Bool.{Bool}
-use Prim.Native.Nat.{ℕ, ◌-◌, ◌≤◌}
+use mathlib.Core.Path.{refl, sym, ◌∙◌}
 use native.Mathlib.Omega.{arith}
 use borrow.Author.Rules.{rules}
 use borrow.Author.Tests.{lt-ltb, le-ltb}
-use lib.Dec.{ltb}
-use lib.ListN.{length, get_or, drop}
-use Rattle.ints.specs.Tests.{all}
+use lib.ListN.{get_or}
 use Rattle.ints.proofs.Lists.{all-fails, all-next, all_over}
 use Rattle.literals.proofs.tests.all_below.Invariants.{under}
 use Rattle.literals.proofs.tests.all_below.Goals as goal

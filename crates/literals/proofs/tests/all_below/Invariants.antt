@@ -1,14 +1,10 @@
 -- `literals::tests::all_below` meets its contract. The loop's invariant: the test of the forms from i on is the test of all.
-use mathlib.Core.Path.{◌≡◌, refl, sym, ◌∙◌}
+use mathlib.Core.Path.{◌≡◌}
 use mathlib.Core.Bool.{Bool}
 use Prim.Native.Nat.{ℕ, ◌-◌, ◌≤◌}
-use native.Mathlib.Omega.{arith}
-use borrow.Author.Rules.{rules}
-use borrow.Author.Tests.{lt-ltb, le-ltb}
 use lib.Dec.{ltb}
-use lib.ListN.{length, get_or, drop}
+use lib.ListN.{length, drop}
 use Rattle.ints.specs.Tests.{all}
-use Rattle.ints.proofs.Lists.{all-fails, all-next, all_over}
 use Rattle.literals.proofs.tests.all_below.Given as goal
 
 abbrev pub under : ℕ → ℕ → Bool

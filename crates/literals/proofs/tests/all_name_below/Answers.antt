@@ -1,13 +1,12 @@
 -- `literals::tests::all_name_below` meets its contract. The loop's invariant: the test of the literals from i on is the test of all.
 use mathlib.Core.Path.{◌≡◌, refl, sym, ◌∙◌}
 use mathlib.Core.Bool.{true}
-use Prim.Native.Nat.{◌-◌, ◌≤◌}
 use native.Mathlib.Omega.{arith}
 use borrow.Author.Rules.{rules}
 use borrow.Author.Tests.{lt-ltb, le-ltb}
-use lib.ListN.{length, get_or, drop}
+use lib.ListN.{get_or}
 use Rattle.ints.proofs.Lists.{all-fails, all-next, all_over}
-use Rattle.ledger.specs.Literals.{form_named, below, names_below}
+use Rattle.ledger.specs.Literals.{form_named, below}
 use Rattle.literals.proofs.tests.all_name_below.Goals as goal
 
 pub loop-i-init : goal.loop-i-init

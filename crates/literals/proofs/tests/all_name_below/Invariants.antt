@@ -1,13 +1,8 @@
 -- `literals::tests::all_name_below` meets its contract. The loop's invariant: the test of the literals from i on is the test of all.
-use mathlib.Core.Path.{◌≡◌, refl, sym, ◌∙◌}
-use mathlib.Core.Bool.{true}
+use mathlib.Core.Path.{◌≡◌}
 use Prim.Native.Nat.{◌-◌, ◌≤◌}
-use native.Mathlib.Omega.{arith}
-use borrow.Author.Rules.{rules}
-use borrow.Author.Tests.{lt-ltb, le-ltb}
-use lib.ListN.{length, get_or, drop}
-use Rattle.ints.proofs.Lists.{all-fails, all-next, all_over}
-use Rattle.ledger.specs.Literals.{form_named, below, names_below}
+use lib.ListN.{length, drop}
+use Rattle.ledger.specs.Literals.{names_below}
 use Rattle.literals.proofs.tests.all_name_below.Given as goal
 
 abbrev pub invariant-loop-i : goal.invariant-loop-i

@@ -1,10 +1,9 @@
 -- `literals::write::write_literals` meets its contract. The loop's invariant: the literals of the forms passed are written.
 use mathlib.Core.Path.{◌≡◌, refl}
 use mathlib.Core.List.{List, map, map-append}
-use Prim.Native.Nat.{ℕ, ◌+◌, ◌*◌, ◌-◌, ◌≤◌, ◌<◌}
+use Prim.Native.Nat.{ℕ, ◌+◌, ◌*◌, ◌<◌}
 use native.Mathlib.Numerals.{add-one}
 use native.Mathlib.Omega.{arith}
-use borrow.Author.Rules.{rules}
 use lib.ListN.{length, get_or, take, set, length-set}
 use lib.Seq.{take-suc, take-suc-set, take-length}
 use Rattle.literals.proofs.write.write_literals.Goals as goal

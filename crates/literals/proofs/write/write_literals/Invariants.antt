@@ -1,12 +1,8 @@
 -- `literals::write::write_literals` meets its contract. The loop's invariant: the literals of the forms passed are written.
-use mathlib.Core.Path.{◌≡◌, refl}
-use mathlib.Core.List.{List, map, map-append}
-use Prim.Native.Nat.{ℕ, ◌+◌, ◌*◌, ◌-◌, ◌≤◌, ◌<◌}
-use native.Mathlib.Numerals.{add-one}
-use native.Mathlib.Omega.{arith}
-use borrow.Author.Rules.{rules}
-use lib.ListN.{length, get_or, take, set, length-set}
-use lib.Seq.{take-suc, take-suc-set, take-length}
+use mathlib.Core.Path.{◌≡◌}
+use mathlib.Core.List.{map}
+use Prim.Native.Nat.{◌+◌, ◌*◌, ◌-◌, ◌≤◌}
+use lib.ListN.{length, take}
 use Rattle.literals.proofs.write.write_literals.Given as goal
 
 abbrev pub invariant-loop-i : goal.invariant-loop-i

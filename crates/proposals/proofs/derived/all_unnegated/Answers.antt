@@ -3,7 +3,6 @@ use mathlib.Core.Path.{ap}
 use native.Mathlib.Omega.{arith}
 use Rattle.session.specs.Answers.{finding_of}
 use Rattle.proposals.proofs.Making.{refused-by, unnegated-made}
-use borrow.Author.Rules.{rules}
 use Rattle.proposals.proofs.derived.all_unnegated.Goals as goal
 
 pub returns-in-Fail : goal.returns-in-Fail

@@ -5,7 +5,6 @@ use native.Mathlib.Omega.{arith}
 use Rattle.ledger.proofs.LiteralLaws.{length-joined}
 use Rattle.session.specs.Answers.{finding_of}
 use Rattle.proposals.proofs.Making.{refused-by, three_made}
-use borrow.Author.Rules.{rules}
 use Rattle.proposals.proofs.derived.three.Goals as goal
 
 pub returns-in-Fail : goal.returns-in-Fail

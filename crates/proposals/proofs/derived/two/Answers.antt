@@ -3,7 +3,6 @@ use Prim.Native.Nat.{◌+◌, ◌*◌}
 use native.Mathlib.Omega.{arith}
 use Rattle.session.specs.Answers.{finding_of}
 use Rattle.proposals.proofs.Making.{refused-by, two_made}
-use borrow.Author.Rules.{rules}
 use Rattle.proposals.proofs.derived.two.Goals as goal
 
 pub returns-in-Fail : goal.returns-in-Fail

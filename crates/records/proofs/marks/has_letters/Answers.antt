@@ -1,6 +1,5 @@
 -- `has_letters` meets its contract.
 use borrow.Author.Tests.{eq-eqb, ne_eqb}
-use borrow.Author.Rules.{rules}
 use Rattle.records.proofs.marks.has_letters.Goals as goal
 
 pub returns-then-bytes-l : goal.returns-then-bytes-l

@@ -1,4 +1,3 @@
-use borrow.Author.Rules.{rules}
 use Rattle.records.proofs.marks.layout_of.Goals as goal
 
 pub returns-in-Rule : goal.returns-in-Rule

@@ -1,11 +1,8 @@
 -- `mark_in_first_half` meets its contract. The loop's invariant: the bytes bear none of the marks passed, so the rest of the marks decide.
-use mathlib.Core.Path.{refl, sym, ◌∙◌}
 use Prim.Native.Nat.{◌-◌}
-use native.Mathlib.Omega.{arith}
-use borrow.Author.Rules.{rules}
 use lib.ListN.{length, take}
 use Rattle.ledger.specs.Record.{marks as table}
-use Rattle.records.proofs.MarkLaws.{Seeking, borne, not_borne, none_borne}
+use Rattle.records.proofs.MarkLaws.{Seeking}
 use Rattle.records.proofs.marks.mark_in_first_half.Given as goal
 
 abbrev pub invariant-loop-i : goal.invariant-loop-i

@@ -1,11 +1,7 @@
 -- `mark_in_second_half` meets its contract. The loop's invariant: the bytes bear none of the marks passed, so the rest of the marks decide.
 use mathlib.Core.Path.{refl, sym, ◌∙◌}
-use Prim.Native.Nat.{◌-◌}
 use native.Mathlib.Omega.{arith}
-use borrow.Author.Rules.{rules}
-use lib.ListN.{length, drop}
-use Rattle.ledger.specs.Record.{marks as table}
-use Rattle.records.proofs.MarkLaws.{Seeking, borne, not_borne, none_borne}
+use Rattle.records.proofs.MarkLaws.{borne, not_borne, none_borne}
 use Rattle.records.proofs.marks.mark_in_second_half.Goals as goal
 
 pub loop-i-init : goal.loop-i-init

@@ -1,6 +1,5 @@
 -- `mark_of` meets its contract: what the first half knows, or else what the second does.
 use Rattle.records.proofs.MarkLaws.{found_first, found_second}
-use borrow.Author.Rules.{rules}
 use Rattle.records.proofs.marks.mark_of.Goals as goal
 
 pub returns-in-Bears : goal.returns-in-Bears

@@ -1,5 +1,4 @@
 -- `rule_layout` meets its contract: each arm's layout is the table's at that mark.
-use borrow.Author.Rules.{rules}
 use Rattle.records.proofs.marks.rule_layout.Goals as goal
 
 pub returns-in-Fm : goal.returns-in-Fm

@@ -1,6 +1,5 @@
 -- `bytes_for` meets its contract: no record is so long that its length wraps.
 use native.Mathlib.Omega.{arith}
-use borrow.Author.Rules.{rules}
 use Rattle.ledger.proofs.LayoutLaws.{few_bytes}
 use Rattle.records.specs.Marks.{record_mark_of}
 use Rattle.records.proofs.shape.bytes_for.Goals as goal

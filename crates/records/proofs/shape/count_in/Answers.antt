@@ -1,5 +1,4 @@
 use borrow.Author.Tests.{lt-leb, le-leb}
-use borrow.Author.Rules.{rules}
 use Rattle.records.proofs.shape.count_in.Goals as goal
 
 pub returns-then-count-l : goal.returns-then-count-l

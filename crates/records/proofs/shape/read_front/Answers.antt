@@ -1,5 +1,4 @@
 use mathlib.Core.Path.{sym}
-use borrow.Author.Rules.{rules}
 use Rattle.ledger.proofs.FrontLaws.{too_few, none-known}
 use Rattle.records.proofs.shape.read_front.Goals as goal
 

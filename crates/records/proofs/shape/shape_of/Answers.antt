@@ -1,7 +1,6 @@
 use mathlib.Core.Path.{sym, ◌∙◌}
 use native.Mathlib.Nat.{mul-zero, add-zero}
 use borrow.Author.Tests.{eq-eqb, ne_eqb, lt-ltb, le-ltb, not-true, not-false}
-use borrow.Author.Rules.{rules}
 use Rattle.ledger.specs.Apply.{finding}
 use Rattle.records.proofs.shape.shape_of.Goals as goal
 

@@ -7,7 +7,6 @@ use lib.IntN.{pos}
 use lib.ListN.{length, take, drop, replicate, length-drop, length-replicate, length-set, drop_of_length-le, replicate-append-replicate}
 use lib.Seq.{length-take-le, length_front, take_all, take_at}
 use Rattle.session.proofs.Filling.{fill_more, fill_all}
-use borrow.Author.Rules.{rules}
 use Rattle.session.proofs.clear.+clear_forms.Goals as goal
 
 module _ {A : Type 0} where

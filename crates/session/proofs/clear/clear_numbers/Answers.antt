@@ -1,11 +1,7 @@
 -- `session::clear::clear_numbers` meets its contract. Invariant: the first i cells are 0 and the others are as they were.
-use mathlib.Core.Path.{◌≡◌}
-use mathlib.Core.List.{◌++◌}
-use Prim.Native.Nat.{◌≤◌, ◌-◌}
 use native.Mathlib.Omega.{arith}
-use lib.ListN.{length, replicate, drop, length-set}
+use lib.ListN.{length-set}
 use Rattle.session.proofs.Filling.{fill_more, fill_all}
-use borrow.Author.Rules.{rules}
 use Rattle.session.proofs.clear.clear_numbers.Goals as goal
 
 pub loop-i-preserved : goal.loop-i-preserved

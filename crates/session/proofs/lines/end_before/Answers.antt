@@ -1,6 +1,5 @@
 -- `session::lines::end_before` meets its contract.
 use native.Mathlib.Omega.{arith}
-use borrow.Author.Rules.{rules}
 use Rattle.session.proofs.LineEnds.{end_at, no_end}
 use Rattle.session.proofs.lines.end_before.Goals as goal
 

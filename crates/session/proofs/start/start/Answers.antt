@@ -3,7 +3,6 @@ use Rattle.rows.specs.Limits.{unknowns}
 use Rattle.session.specs.Cells.{Tables, tables}
 use Rattle.session.specs.Parts.{Long}
 use Rattle.session.proofs.Starting.{passed→long, start-refused, start-passed}
-use borrow.Author.Rules.{rules}
 use Rattle.session.proofs.start.start.Goals as goal
 use Rattle.session.proofs.start.start.Goals.{In_default, Start}
 

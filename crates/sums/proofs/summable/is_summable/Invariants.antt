@@ -1,18 +1,10 @@
 -- `sums::summable::is_summable` meets its contract. The loop's invariant: the test of the terms from i on is the test of all.
-use mathlib.Core.Path.{◌≡◌, sym, ap, ◌∙◌}
-use mathlib.Core.Bool.{◌&&◌}
-use Prim.Native.Nat.{◌+◌, ◌-◌, ◌≤◌}
-use native.Mathlib.Omega.{arith}
-use borrow.Author.Rules.{rules, sfits_of}
-use borrow.Author.Tests.{not-true, not-false}
-use lib.IntN.{ℤ, pos}
-use lib.ListN.{length, get_or, drop, drop_of_length-le}
-use mir.Syntax.{w32}
-use mir.ValLaws.{to_z-of_z}
+use mathlib.Core.Path.{◌≡◌}
+use Prim.Native.Nat.{◌-◌, ◌≤◌}
+use lib.ListN.{length, drop}
 use Rattle.ints.specs.Tests.{all}
 use Rattle.rows.specs.Limits.{unknowns}
 use Rattle.rows.specs.Summable.{terms, summand, summable}
-use Rattle.rows.proofs.TermLaws.{term, next-term, summable-is, not-summable}
 use Rattle.sums.proofs.summable.is_summable.Given as goal
 
 abbrev pub invariant-loop-i : goal.invariant-loop-i

@@ -9,26 +9,20 @@ mkdir -p "$work"
 
 rt=$(command -v rt) || fail "no rt on the path"
 kit=${RATTLE_HOME:-$(dirname "$(dirname "$(readlink -f "$rt")")")}
-own=$kit/on/$(uname -m)
-tools=$own/toolchain
-
-# Built programs are for x86-64; elsewhere the toolchain has an emulator.
-runner=
-if [ "$(uname -m)" != x86_64 ]; then
-    runner="$tools/bin/qemu-x86_64 $tools/lib/ld-linux-x86-64.so.2 --library-path $tools/lib "
-fi
+tools=$kit/toolchain
+[ "$(uname -m)" = x86_64 ] || fail "built programs are for x86-64, and this machine is $(uname -m)"
 
 {
     "$tools/bin/clang" --target=x86_64-unknown-linux-gnu -O3 -ffreestanding -fPIE \
         -c "$here/plain.c" -o "$work/plain.o" &&
-    "$own/bin/rattle-link" --target x86_64-unknown-linux-gnu --toolchain "$tools" \
+    "$kit/bin/rattle-link" --target x86_64-unknown-linux-gnu --toolchain "$tools" \
         -o "$work/plain" "$work/plain.o"
 } >"$work/build.log" 2>&1 || fail "plain.c was not built, see $work/build.log"
-plain=$runner$work/plain
+plain=$work/plain
 
-proved=${REPLAY:-${runner}target/bin/replay}
+proved=${REPLAY:-target/bin/replay}
 [ -n "${REPLAY:-}" ] || [ -x target/bin/replay ] ||
-    fail "no target/bin/replay: build it with 'rt check replay', or name a command in REPLAY"
+    fail "no target/bin/replay: build it with './replay </dev/null', or name a command in REPLAY"
 
 # Writes the stream of a kind and size; what it should give is left in $work/counts.
 generate() { # KIND MEGABYTES FILE

@@ -1,5 +1,5 @@
 /* The checker's four calls, for C on x86-64. Link with libzarnowiej.a, which
-   `rt staticlib zarnowiej` writes; README.md says more.
+   `zarnowiej/run` writes into target/staticlib; README.md says more.
 
    Each table and the bytes of a record are passed as an address and a count of
    cells. The addresses are never null, not even for a count of 0; that many

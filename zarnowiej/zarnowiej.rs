@@ -1,4 +1,4 @@
-//! The checker's four calls, for Rust on x86-64, as functions over slices. Link with libzarnowiej.a, which `rt staticlib zarnowiej` writes.
+//! The checker's four calls, for Rust on x86-64, as functions over slices. Link with libzarnowiej.a, which `zarnowiej/run` writes into target/staticlib.
 //! Any lengths, any cells, any session and any bytes get an answer, and a refusal changes nothing.
 
 /// The cells that each table must have; of longer ones the excess is neither read nor written.

@@ -15,7 +15,7 @@ use Rattle.ledger.specs.Bytes.{shape, decode, apply_bytes}
 use Rattle.ledger.proofs.Findings.{passed→pass, accepted_exactly, apply-accepted, bytes-accepted}
 use Rattle.ledger.proofs.LegalLaws.{legal-apply_bytes}
 use Rattle.session.specs.declared.state.Session.{Session}
-use Rattle.session.specs.Cells.{Tables, tables, named, excess, with_excess, ledger_of}
+use Rattle.session.specs.Cells.{Tables, named, excess, with_excess, ledger_of}
 use Rattle.session.specs.Calls.{entry}
 use Rattle.laid.specs.Laid.{tables_of, session_of}
 use Rattle.laid.proofs.HeldLaws.{held-legal}

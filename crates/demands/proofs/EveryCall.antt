@@ -20,7 +20,6 @@ use Rattle.ledger.proofs.LegalLaws.{legal-fresh}
 use Rattle.session.specs.declared.state.Session.{Session}
 use Rattle.session.specs.declared.answers.Refusal.{Refusal}
 use Rattle.session.specs.declared.answers.Answer as code
-use Rattle.session.specs.declared.answers.Answer.TheVariants as Answers
 use Rattle.session.specs.declared.answers.Start.TheVariants as Beginnings
 use Rattle.session.specs.declared.start.Begun.{Begun}
 use Rattle.session.specs.Limits.{form_table, pool_table, line_table}

@@ -5,10 +5,10 @@
 
 mod plain;
 
-pub use plain::{Begun, Fed, Mark, Ran, Session, Stands};
-
 ghost use Rattle.session.specs.Cells.{tables};
 ghost use Rattle.zarnowiej.specs.Crossing.{StartCrosses, FeedCrosses, RunCrosses, StandingCrosses};
+
+pub use plain::{Begun, Fed, Mark, Ran, Session, Stands};
 
 // The start: a fresh session, and every named cell becomes 0. Refused with 1 where a table is too short.
 pub fn zarnowiej_start(forms: &mut [i32], pool: &mut [u16], lines: &mut [u16]) -> Begun
@@ -55,12 +55,7 @@ pub fn zarnowiej_run(
 }
 
 // The standing: refuted by the lowest empty line, not refuted, or refused with 1 or 2. It writes nothing.
-pub fn zarnowiej_standing(
-    s: Session,
-    forms: &[i32],
-    pool: &[u16],
-    lines: &[u16],
-) -> Stands
+pub fn zarnowiej_standing(s: Session, forms: &[i32], pool: &[u16], lines: &[u16]) -> Stands
     ensures { StandingCrosses s (tables forms.now pool.now lines.now) result }
 {
     let inner = crate::plain::session_in(s);

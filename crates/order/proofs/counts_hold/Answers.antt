@@ -1,7 +1,6 @@
 -- `order::counts_hold` meets its contract.
 use native.Mathlib.Omega.{arith}
 use borrow.Author.Tests.{leb-true, le-leb}
-use borrow.Author.Rules.{rules}
 use Rattle.walk.proofs.Says.{say_no}
 use Rattle.order.proofs.counts_hold.Goals as goal
 

@@ -1,6 +1,5 @@
 -- `order::entered` meets its contract.
 use mathlib.Core.Path.{◌≡◌, sym, ap, ◌∙◌}
-use borrow.Author.Rules.{rules}
 use Rattle.rows.specs.Limits.{unknowns}
 use Rattle.ledger.specs.Apply.{pass, finding}
 use Rattle.ledger.proofs.Findings.{pass→passed, fail_append}

@@ -3,7 +3,6 @@ use mathlib.Core.Path.{◌≡◌, sym, ◌∙◌, subst}
 use mathlib.Core.Bool.{false}
 use native.Mathlib.Omega.{arith}
 use borrow.Author.Tests.{not-true, not-false}
-use borrow.Author.Rules.{rules}
 use lib.Dec.{T}
 use Rattle.ints.proofs.Bools.{true→T, T→false, T-same}
 use Rattle.rows.specs.Limits.{unknowns}

@@ -4,7 +4,6 @@ use Rattle.ledger.specs.Checks.{tests, makes}
 use Rattle.ledger.specs.Record.{TR}
 use Rattle.proposals.proofs.Making.{as_rule}
 use Rattle.rules.proofs.FieldLaws.{of_fields, low_three}
-use borrow.Author.Rules.{rules}
 use Rattle.pairs.proofs.trichotomy.Goals as goal
 
 pub three-requires : goal.three-requires

@@ -1,7 +1,6 @@
 use mathlib.Core.Path.{refl, ap₂}
 use Prim.Native.Nat.{ℕ}
 use native.Mathlib.Omega.{arith}
-use borrow.Author.Rules.{rules}
 use Rattle.rows.specs.Limits.{unknowns}
 use Rattle.rows.specs.Form.{is_zero, is_divided}
 use Rattle.rows.specs.Conditions.{same_row}

@@ -1,5 +1,5 @@
 -- `holding` meets its contract: more than there are is all.
-use Rattle.std.proofs.Common.{sym, ◌∙◌, arith, take_all, rules}
+use Rattle.std.proofs.Common.{sym, ◌∙◌, arith, take_all}
 use lib.Seq.{take-length}
 use Rattle.pieces.proofs.holding.Goals as goal
 

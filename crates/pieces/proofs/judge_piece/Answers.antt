@@ -3,7 +3,6 @@ use native.Mathlib.Nat.{sub-zero}
 use Rattle.rows.specs.Limits.{unknowns}
 use Rattle.session.specs.Cells.{tables}
 use Rattle.pieces.proofs.Stepping.{stepped}
-use Rattle.std.proofs.Common.{rules}
 use Rattle.pieces.proofs.judge_piece.Goals as goal
 
 pub returns : goal.returns

@@ -1,6 +1,5 @@
 -- `keep` meets its contract. Invariant: the bytes before i are moved to the front.
-use Rattle.std.proofs.Common.{◌-◌, rules}
-use Rattle.pieces.proofs.Moving.{Moving, sets_out, one_more, arrives}
+use Rattle.pieces.proofs.Moving.{sets_out, one_more, arrives}
 use Rattle.pieces.proofs.keep.Goals as goal
 
 pub loop-i-init : goal.loop-i-init

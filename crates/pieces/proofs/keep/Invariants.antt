@@ -1,6 +1,6 @@
 -- `keep` meets its contract. Invariant: the bytes before i are moved to the front.
-use Rattle.std.proofs.Common.{◌-◌, rules}
-use Rattle.pieces.proofs.Moving.{Moving, sets_out, one_more, arrives}
+use Rattle.std.proofs.Common.{◌-◌}
+use Rattle.pieces.proofs.Moving.{Moving}
 use Rattle.pieces.proofs.keep.Given as goal
 
 abbrev pub invariant-loop-i : goal.invariant-loop-i

@@ -1,5 +1,4 @@
 use mathlib.Core.Path.{refl}
-use borrow.Author.Rules.{rules}
 use Rattle.ledger.specs.Settles.{proposed}
 use Rattle.propose.proofs.propose.Goals as goal
 

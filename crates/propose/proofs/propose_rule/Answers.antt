@@ -7,7 +7,6 @@ use native.Mathlib.Omega.{arith}
 use Rattle.rows.specs.Limits.{unknowns}
 use Rattle.rules.specs.Read.{forms_in}
 use Rattle.rules.proofs.HeldLaws.{form-count}
-use borrow.Author.Rules.{rules}
 use Rattle.propose.proofs.propose_rule.Goals as goal
 
 pub form-requires : goal.form-requires

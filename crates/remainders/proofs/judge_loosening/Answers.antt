@@ -5,7 +5,6 @@ use Rattle.rows.specs.Conditions.{loosens}
 use Rattle.ledger.specs.Checks.{both_are, tests}
 use Rattle.rules.specs.Read.{forms_in}
 use Rattle.rules.proofs.FieldLaws.{fails-first, others_decide, both_inside, then_forms}
-use borrow.Author.Rules.{rules}
 use Rattle.remainders.proofs.judge_loosening.Goals as goal
 
 pub returns-in-Fail : goal.returns-in-Fail

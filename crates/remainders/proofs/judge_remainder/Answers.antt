@@ -23,7 +23,6 @@ use Rattle.rules.specs.Read.{forms_in}
 use Rattle.rules.proofs.HeldLaws.{in_force, picked}
 use Rattle.rules.proofs.FindingWalk.{whole, past, fails, passes, LeftFrom}
 use Rattle.remainders.proofs.Picks.{forms-read, divided_read, rows_read}
-use borrow.Author.Rules.{rules}
 use Rattle.remainders.proofs.judge_remainder.Goals as goal
 use Rattle.remainders.proofs.judge_remainder.Goals.{After-are_neighbours, After-divisors_are, Else-not-all_below, Else-not-divisors_are, Start}
 

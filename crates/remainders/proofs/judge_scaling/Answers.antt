@@ -14,7 +14,6 @@ use Rattle.ledger.specs.Checks.{both_are}
 use Rattle.rules.specs.Read.{forms_in}
 use Rattle.rules.proofs.FindingWalk.{whole, past, fails, goes_on}
 use Rattle.rules.proofs.FieldLaws.{fails-first, others_decide, both_inside, then_forms}
-use borrow.Author.Rules.{rules}
 use Rattle.remainders.proofs.judge_scaling.Goals as goal
 
 pub returns-in-Fail : goal.returns-in-Fail

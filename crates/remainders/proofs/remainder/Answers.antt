@@ -12,7 +12,6 @@ use Rattle.ledger.specs.Bytes.{numbers_behind}
 use Rattle.proposals.proofs.Making.{as_rule}
 use Rattle.rules.specs.Read.{forms_in}
 use Rattle.remainders.proofs.Picks.{low_picks, different_picks, lent, lent_some, lent_few}
-use borrow.Author.Rules.{rules}
 use Rattle.remainders.proofs.remainder.Goals as goal
 
 pub read_numbers-n-requires : goal.read_numbers-n-requires

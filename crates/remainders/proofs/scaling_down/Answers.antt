@@ -6,7 +6,6 @@ use Rattle.ledger.specs.Record.{SD}
 use Rattle.ledger.specs.Checks.{tests, makes}
 use Rattle.proposals.proofs.Making.{as_rule}
 use Rattle.rules.proofs.FieldLaws.{low_two, of_fields}
-use borrow.Author.Rules.{rules}
 use Rattle.remainders.proofs.scaling_down.Goals as goal
 
 pub two-requires : goal.two-requires

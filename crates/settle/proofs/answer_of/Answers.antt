@@ -1,4 +1,3 @@
-use borrow.Author.Rules.{rules}
 use Rattle.settle.proofs.answer_of.Goals as goal
 
 pub returns-in-Refused : goal.returns-in-Refused

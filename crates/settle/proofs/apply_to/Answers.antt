@@ -1,4 +1,3 @@
-use borrow.Author.Rules.{rules}
 use Rattle.settle.proofs.apply_to.Goals as goal
 
 pub levelled-requires : goal.levelled-requires

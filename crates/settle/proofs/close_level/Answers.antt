@@ -1,5 +1,4 @@
 use native.Mathlib.Omega.{arith}
-use borrow.Author.Rules.{rules}
 use Rattle.settle.proofs.OnLedger.{no_level}
 use Rattle.settle.proofs.Tops.{closes_less, seen-levels, seen-between}
 use Rattle.settle.proofs.close_level.Goals as goal

@@ -1,5 +1,4 @@
 use native.Mathlib.Omega.{arith}
-use borrow.Author.Rules.{rules}
 use Rattle.settle.proofs.OnLedger.{form-full}
 use Rattle.settle.proofs.Tops.{form_adds}
 use Rattle.settle.proofs.keep_form.Goals as goal

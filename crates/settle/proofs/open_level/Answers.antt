@@ -1,5 +1,4 @@
 use native.Mathlib.Omega.{arith}
-use borrow.Author.Rules.{rules}
 use Rattle.settle.proofs.OnLedger.{levels-full}
 use Rattle.settle.proofs.Tops.{opens-more}
 use Rattle.settle.proofs.open_level.Goals as goal

@@ -1,5 +1,4 @@
 use native.Mathlib.Nat.{sub-zero}
-use borrow.Author.Rules.{rules}
 use Rattle.ledger.specs.Settles.{settles}
 use Rattle.settle.proofs.Tops.{seen-levels, seen-literals}
 use Rattle.proposals.specs.Proposing.{Fits, Within}

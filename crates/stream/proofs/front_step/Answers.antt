@@ -1,7 +1,6 @@
 -- `stream::front_step` meets its contract.
 use mathlib.Core.Path.{subst}
 use native.Mathlib.Nat.{sub-zero}
-use borrow.Author.Rules.{rules}
 use Rattle.records.specs.Marks.{Whole, Fronted, record_mark_of}
 use Rattle.stream.proofs.Running.{wrong_front, whole-front}
 use Rattle.stream.proofs.front_step.Goals as goal

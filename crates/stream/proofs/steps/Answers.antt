@@ -1,19 +1,15 @@
 -- `stream::steps` meets its contract. The loop's invariant: so many records and bytes are accepted, and what is left of the stream decides
 -- the whole; and what is lent for each record is long enough.
 use mathlib.Core.Path.{◌≡◌, refl, sym, ◌∙◌}
-use Prim.Native.Nat.{◌-◌}
 use native.Mathlib.Omega.{arith}
-use borrow.Author.Rules.{rules}
-use lib.ListN.{length}
-use Rattle.rows.specs.Limits.{unknowns, most_terms}
-use Rattle.ledger.specs.Limits.{longest_line}
+use Rattle.rows.specs.Limits.{unknowns}
 use Rattle.session.specs.declared.state.Session.{Session}
 use Rattle.session.specs.Cells.{Tables, tables, counts_of, mark_at}
 use Rattle.laid.proofs.HeldLaws.{held_clauses}
 use Rattle.settle.specs.Settling.{top_of}
 use Rattle.settle.proofs.Tops.{top_is}
 use Rattle.stream.specs.Walk.{session_with}
-use Rattle.stream.proofs.Running.{Underway, sets_out, set_out, arrives, Turn, turns}
+use Rattle.stream.proofs.Running.{sets_out, set_out, arrives, Turn, turns}
 use Rattle.stream.proofs.steps.Goals as goal
 use Rattle.stream.proofs.steps.Goals.{After-front_step-step, After-last_place, At-loop-bytes}
 

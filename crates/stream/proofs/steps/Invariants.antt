@@ -1,19 +1,13 @@
 -- `stream::steps` meets its contract. The loop's invariant: so many records and bytes are accepted, and what is left of the stream decides
 -- the whole; and what is lent for each record is long enough.
-use mathlib.Core.Path.{◌≡◌, refl, sym, ◌∙◌}
+use mathlib.Core.Path.{◌≡◌}
 use Prim.Native.Nat.{◌-◌}
-use native.Mathlib.Omega.{arith}
-use borrow.Author.Rules.{rules}
 use lib.ListN.{length}
 use Rattle.rows.specs.Limits.{unknowns, most_terms}
 use Rattle.ledger.specs.Limits.{longest_line}
-use Rattle.session.specs.declared.state.Session.{Session}
-use Rattle.session.specs.Cells.{Tables, tables, counts_of, mark_at}
-use Rattle.laid.proofs.HeldLaws.{held_clauses}
-use Rattle.settle.specs.Settling.{top_of}
-use Rattle.settle.proofs.Tops.{top_is}
+use Rattle.session.specs.Cells.{tables}
 use Rattle.stream.specs.Walk.{session_with}
-use Rattle.stream.proofs.Running.{Underway, sets_out, set_out, arrives, Turn, turns}
+use Rattle.stream.proofs.Running.{Underway}
 use Rattle.stream.proofs.steps.Given as goal
 
 abbrev pub invariant-loop-bytes : goal.invariant-loop-bytes

@@ -16,7 +16,6 @@ use Rattle.ledger.specs.Apply.{Finding, pass, finding}
 use Rattle.rules.specs.Read.{forms_in}
 use Rattle.proposals.proofs.Making.{as_rule}
 use Rattle.terms.proofs.LentTerms.{lent_terms, lent_paired, lent_forms, lent_low, lent_few, sum_in_force}
-use borrow.Author.Rules.{rules}
 use Rattle.terms.proofs.farkas.Goals as goal
 
 in_force_lem : (n : ℕ) (fs : List Form) (ts : List Term) {v : Finding} → v ≡ finding (tests n fs [] (FK ts)) → v ≡ pass → T (all (form_in fs) (forms_of ts))

@@ -1,7 +1,7 @@
 -- `terms::judge_farkas` meets its contract: it makes the tests by the cells, which find what the tests on the ledger find.
 use mathlib.Core.Path.{◌≡◌, sym, ap, ◌∙◌}
 use mathlib.Core.Bool.{true, ◌||◌}
-use borrow.Author.Rules.{rules, sfits_of}
+use borrow.Author.Rules.{sfits_of}
 use borrow.Author.Tests.{not-true, not-false}
 use Prim.Native.Nat.{ℕ}
 use lib.IntN.{ℤ, pos}

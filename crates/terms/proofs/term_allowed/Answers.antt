@@ -1,6 +1,6 @@
 -- `terms::term_allowed` meets its contract.
 use mathlib.Core.Path.{◌≡◌, sym, ap, ◌∙◌}
-use borrow.Author.Rules.{rules, sfits_of}
+use borrow.Author.Rules.{sfits_of}
 use borrow.Author.Tests.{not-true, not-false}
 use lib.IntN.{ℤ}
 use mir.Syntax.{w32}

@@ -1,22 +1,15 @@
 -- `terms::terms_allowed` meets its contract. Invariant: the test of the terms from i on is the test of all.
-use mathlib.Core.Path.{◌≡◌, refl, sym, ap, ap₂, ◌∙◌}
-use mathlib.Core.Bool.{Bool, ◌&&◌}
+use mathlib.Core.Path.{◌≡◌}
+use mathlib.Core.Bool.{Bool}
 use mathlib.Core.List.{List}
-use Prim.Native.Nat.{◌+◌, ◌-◌, ◌≤◌}
-use native.Mathlib.Omega.{arith}
-use borrow.Author.Rules.{rules, sfits_of}
-use borrow.Author.Tests.{not-true, not-false}
-use lib.IntN.{ℤ, pos}
-use lib.ListN.{length, get_or, drop, drop_of_length-le}
-use mir.Syntax.{w32}
-use mir.Val.{to_z, of_z}
-use mir.ValLaws.{to_z-of_z}
+use Prim.Native.Nat.{◌-◌, ◌≤◌}
+use lib.IntN.{ℤ}
+use lib.ListN.{length, drop}
 use Rattle.ints.specs.Tests.{all}
 use Rattle.rows.specs.Limits.{unknowns}
 use Rattle.rows.specs.Form.{form_at}
 use Rattle.rows.specs.Sum.{Term}
 use Rattle.rows.specs.Summable.{terms}
-use Rattle.rows.proofs.TermLaws.{term, next-term}
 use Rattle.terms.specs.Picks.{allowed}
 use Rattle.terms.proofs.terms_allowed.Given as goal
 

@@ -5,7 +5,6 @@ use native.Mathlib.Omega.{arith}
 use Rattle.rows.specs.Limits.{unknowns}
 use Rattle.session.specs.Limits.{form_cells}
 use Rattle.writes.proofs.PartLaws.{part_written}
-use borrow.Author.Rules.{rules}
 use Rattle.writes.proofs.add_form.Goals as goal
 
 pub returns : goal.returns

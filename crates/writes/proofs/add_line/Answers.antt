@@ -6,7 +6,6 @@ use lib.ListN.{length, length-set}
 use Rattle.ledger.specs.Literals.{joined}
 use Rattle.session.specs.Limits.{line_cells}
 use Rattle.writes.proofs.PartLaws.{part_written, two-written}
-use borrow.Author.Rules.{rules}
 use Rattle.writes.proofs.add_line.Goals as goal
 
 pub bounds-lines-k-2 : goal.bounds-lines-k-2

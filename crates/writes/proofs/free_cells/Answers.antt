@@ -1,7 +1,6 @@
 -- `writes::free_cells` meets its contract: a part that is not cleared is empty.
 use mathlib.Core.Path.{◌≡◌, ◌∙◌, refl}
 use mathlib.Core.List.{List}
-use mathlib.Core.Logic.{⊎_elim}
 use Prim.Native.Nat.{ℕ, ◌*◌, ◌-◌, ◌≤◌}
 use native.Mathlib.Omega.{arith}
 use lib.IntN.{ℤ, pos}
@@ -11,7 +10,6 @@ use Rattle.rows.specs.Limits.{unknowns}
 use Rattle.session.specs.Limits.{line_cells, form_cells}
 use Rattle.session.specs.Effects.{cleared}
 use Rattle.writes.proofs.PartLaws.{part_cleared, same_tables}
-use borrow.Author.Rules.{rules}
 use Rattle.writes.proofs.free_cells.Goals as goal
 use Rattle.writes.proofs.free_cells.Goals.{then-first_form-form_end, else-first_form-form_end, then-first_literal-literal_end, else-first_literal-literal_end, Joined-first_form-form_end, Joined-first_literal-literal_end, Start}
 
@@ -37,11 +35,11 @@ forms-freed c =
     let n = form_cells unknowns in
     elim c.if-first_form-form_end.branch [
       | then-first_form-form_end w ↦
-        w.forms-is
-        ∙ part_cleared (pos 0) (n * c.args.from.forms) (n * c.args.to.forms) c.args.forms.now _ (omega (arith, h.forms)) h.form-table w.clear_forms.ensures
+          w.forms-is
+          ∙ part_cleared (pos 0) (n * c.args.from.forms) (n * c.args.to.forms) c.args.forms.now _ (omega (arith, h.forms)) h.form-table w.clear_forms.ensures
       | else-first_form-form_end w ↦
-        w.forms-is
-        ∙ none-cleared (pos 0) (n * c.args.from.forms) (n * c.args.to.forms) c.args.forms.now (omega (arith, h.forms)) w.if-first_form-form_end.false
+          w.forms-is
+          ∙ none-cleared (pos 0) (n * c.args.from.forms) (n * c.args.to.forms) c.args.forms.now (omega (arith, h.forms)) w.if-first_form-form_end.false
     ]
 
 pool-freed : (c : Joined-first_literal-literal_end) → c.if-first_literal-literal_end.pool ≡ pool_freed (goal.at.Joined-first_literal-literal_end c).Start
@@ -49,9 +47,9 @@ pool-freed c =
     let h = c.requires in
     elim c.if-first_literal-literal_end.branch [
       | then-first_literal-literal_end w ↦
-        w.pool-is ∙ part_cleared 0 c.args.from.literals c.args.to.literals c.args.pool.now _ h.literals h.pool-table w.clear_numbers.ensures
+          w.pool-is ∙ part_cleared 0 c.args.from.literals c.args.to.literals c.args.pool.now _ h.literals h.pool-table w.clear_numbers.ensures
       | else-first_literal-literal_end w ↦
-        w.pool-is ∙ none-cleared 0 c.args.from.literals c.args.to.literals c.args.pool.now h.literals w.if-first_literal-literal_end.false
+          w.pool-is ∙ none-cleared 0 c.args.from.literals c.args.to.literals c.args.pool.now h.literals w.if-first_literal-literal_end.false
     ]
 
 forms-length : (c : Joined-first_form-form_end) → length c.if-first_form-form_end.forms ≡ length c.args.forms.now

@@ -1,5 +1,4 @@
 -- `writes::put_cells` meets its contract. Invariant: the first i cells are written, and the others are as they were.
-use Prim.Native.Nat.{◌-◌, ◌≤◌}
 use native.Mathlib.Nat.{zero-add}
 use native.Mathlib.Numerals.{add-one}
 use native.Mathlib.Omega.{arith}
@@ -8,10 +7,9 @@ use mir.Syntax.{w32}
 use mir.Val.{SFits}
 use mir.ValLaws.{to_z-of_z}
 use lib.IntN.{pos}
-use lib.ListN.{length, get_or, drop, drop_of_length-le}
+use lib.ListN.{get_or, drop_of_length-le}
 use lib.Seq.{drop-cons}
-use Rattle.literals.proofs.Filler.{Written, write_none, write_more, write_all}
-use borrow.Author.Rules.{rules}
+use Rattle.literals.proofs.Filler.{write_none, write_more, write_all}
 use Rattle.writes.proofs.put_cells.Goals as goal
 
 pub loop-i-init : goal.loop-i-init

@@ -1,6 +1,5 @@
 -- `zarnowiej::zarnowiej_feed` meets its contract.
 use Rattle.rows.specs.Limits.{unknowns}
-use borrow.Author.Rules.{rules}
 use Rattle.zarnowiej.proofs.CallsCross.{feed_crosses}
 use Rattle.zarnowiej.proofs.zarnowiej_feed.Goals as goal
 

@@ -1,6 +1,5 @@
 -- `zarnowiej::zarnowiej_run` meets its contract.
 use Rattle.rows.specs.Limits.{unknowns}
-use borrow.Author.Rules.{rules}
 use Rattle.zarnowiej.proofs.CallsCross.{run_crosses}
 use Rattle.zarnowiej.proofs.zarnowiej_run.Goals as goal
 

@@ -4,7 +4,6 @@ use Rattle.rows.specs.Limits.{unknowns}
 use Rattle.session.specs.Cells.{tables}
 use Rattle.session.specs.Calls.{standing}
 use Rattle.zarnowiej.specs.Crossing.{standing_out}
-use borrow.Author.Rules.{rules}
 use Rattle.zarnowiej.proofs.zarnowiej_standing.Goals as goal
 
 pub returns : goal.returns

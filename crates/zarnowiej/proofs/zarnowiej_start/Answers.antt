@@ -1,6 +1,5 @@
 -- `zarnowiej::zarnowiej_start` meets its contract.
 use Rattle.rows.specs.Limits.{unknowns}
-use borrow.Author.Rules.{rules}
 use Rattle.zarnowiej.proofs.CallsCross.{start_crosses}
 use Rattle.zarnowiej.proofs.zarnowiej_start.Goals as goal
 

@@ -1,7 +1,6 @@
 -- `checker::feed::feed` meets its contract.
 use mathlib.Core.Path.{◌≡◌, sym, ap, ◌∙◌}
-use borrow.Author.Rules.{rules}
-use lib.ListN.{length, length-map}
+use lib.ListN.{length}
 use Rattle.rows.specs.Limits.{unknowns}
 use Rattle.ledger.specs.Limits.{most_levels}
 use Rattle.ledger.specs.Apply.{pass}

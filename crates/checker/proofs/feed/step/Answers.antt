@@ -1,7 +1,6 @@
 -- `checker::feed::step` meets its contract.
 use mathlib.Core.Path.{◌≡◌, refl, sym, ◌∙◌}
 use native.Mathlib.Omega.{arith}
-use borrow.Author.Rules.{rules}
 use Rattle.rows.specs.Limits.{unknowns}
 use Rattle.session.specs.Cells.{tables, mark_at}
 use Rattle.laid.proofs.HeldLaws.{held_clauses}

@@ -1,16 +1,10 @@
 -- `order::cells::forms_clear` meets its contract. The loop's invariant: the test of the cells from i on is the test from `from` on.
-use mathlib.Core.Path.{◌≡◌, refl, sym, ◌∙◌}
+use mathlib.Core.Path.{◌≡◌}
 use mathlib.Core.Bool.{Bool}
 use Prim.Native.Nat.{◌-◌}
-use native.Mathlib.Omega.{arith}
-use borrow.Author.Rules.{rules, sfits_of}
-use lib.Dec.{lit<}
 use lib.IntN.{ℤ, pos}
-use lib.ListN.{length, drop, get_or}
-use mir.Syntax.{w32}
+use lib.ListN.{length, drop}
 use Rattle.ints.specs.Tests.{eq_z, all}
-use Rattle.ints.proofs.Bits.{bits-same, bits_differ}
-use Rattle.ints.proofs.Lists.{all-fails, all-next, all_over}
 use Rattle.order.proofs.cells.forms_clear.Given as goal
 
 abbrev pub clear : ℤ → Bool

@@ -1,13 +1,7 @@
 -- `order::cells::numbers_clear` meets its contract. The loop's invariant: the test of the cells from i on is the test from `from` on.
-use mathlib.Core.Path.{◌≡◌, refl, sym, ◌∙◌}
-use mathlib.Core.Bool.{Bool}
-use Prim.Native.Nat.{ℕ, ◌-◌}
+use mathlib.Core.Path.{refl, sym, ◌∙◌}
 use native.Mathlib.Omega.{arith}
 use borrow.Author.Tests.{eq-eqb, ne_eqb}
-use borrow.Author.Rules.{rules}
-use lib.Dec.{eqb}
-use lib.ListN.{length, drop}
-use Rattle.ints.specs.Tests.{all}
 use Rattle.ints.proofs.Lists.{all-fails, all-next, all_over}
 use Rattle.order.proofs.cells.numbers_clear.Invariants.{clear}
 use Rattle.order.proofs.cells.numbers_clear.Goals as goal

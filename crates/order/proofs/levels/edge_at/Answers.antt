@@ -1,7 +1,6 @@
 -- `order::levels::edge_at` meets its contract.
 use mathlib.Core.Path.{◌∙◌}
 use borrow.Author.Tests.{lt-ltb, le-ltb}
-use borrow.Author.Rules.{rules}
 use Rattle.order.proofs.levels.edge_at.Goals as goal
 
 pub returns-then-i-open : goal.returns-then-i-open

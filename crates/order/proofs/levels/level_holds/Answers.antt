@@ -2,7 +2,6 @@
 use mathlib.Core.Path.{sym, ◌∙◌, subst}
 use native.Mathlib.Omega.{arith}
 use borrow.Author.Tests.{not-true, not-false}
-use borrow.Author.Rules.{rules}
 use lib.Dec.{T}
 use Rattle.ints.proofs.Bools.{true→T}
 use Rattle.session.specs.InOrder.{not_above}

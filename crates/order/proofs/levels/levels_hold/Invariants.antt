@@ -1,18 +1,9 @@
 -- `order::levels::levels_hold` meets its contract. The loop's invariant: every level below i is right, and `low` is the edge before i.
-use mathlib.Core.Path.{◌≡◌, refl, sym, ap, ◌∙◌, subst}
-use mathlib.Core.Bool.{true}
+use mathlib.Core.Path.{◌≡◌}
 use Prim.Native.Nat.{ℕ, ◌+◌, ◌-◌, ◌≤◌, ◌<◌}
-use native.Mathlib.Numerals.{add-one}
-use native.Mathlib.Omega.{arith}
-use borrow.Author.Count.{below_more}
-use borrow.Author.Tests.{not-true, not-false}
-use borrow.Author.Rules.{rules}
-use Rattle.session.specs.declared.state.Mark.{Mark}
 use Rattle.session.specs.Cells.{counts_of, end_before}
 use Rattle.session.specs.Parts.{edge}
-use Rattle.walk.specs.Walk.{Exactly}
-use Rattle.order.specs.Levels.{Below, LevelGood, lower}
-use Rattle.walk.proofs.Says.{say_yes, say_no, denied}
+use Rattle.order.specs.Levels.{LevelGood, lower}
 use Rattle.order.proofs.levels.levels_hold.Given as goal
 
 abbrev pub invariant-loop-i : goal.invariant-loop-i

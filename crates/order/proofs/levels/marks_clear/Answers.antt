@@ -1,11 +1,9 @@
 -- `order::levels::marks_clear` meets its contract. The loop's invariant: the test of the marks from i on is the test from the open levels on.
 use mathlib.Core.Path.{◌≡◌, refl, sym, ◌∙◌}
-use Prim.Native.Nat.{◌-◌, ◌≤◌}
 use native.Mathlib.Omega.{arith}
 use borrow.Author.Tests.{not-true, not-false}
 use borrow.Author.Rules.{rules}
-use lib.ListN.{length, drop, length-map}
-use Rattle.ints.specs.Tests.{all}
+use lib.ListN.{length}
 use Rattle.ints.proofs.Lists.{all-fails, all-next, all_over}
 use Rattle.ledger.specs.Limits.{most_levels}
 use Rattle.session.specs.Cells.{no_mark}

@@ -1,13 +1,8 @@
 -- `order::standing::lowest_empty` meets its contract. The loop's invariant: the lowest empty line from i on is the lowest of all.
-use mathlib.Core.Path.{◌≡◌, refl, sym, ◌∙◌}
+use mathlib.Core.Path.{◌≡◌}
 use Prim.Native.Nat.{◌-◌, ◌≤◌}
-use native.Mathlib.Nat.{sub-zero}
-use native.Mathlib.Omega.{arith}
-use borrow.Author.Rules.{rules}
 use Rattle.session.specs.Cells.{end_before}
 use Rattle.order.specs.Empty.{lowest_empty}
-use Rattle.walk.proofs.LineWalk.{end-next}
-use Rattle.order.proofs.EmptyLines.{empty_here, not_here, none_empty}
 use Rattle.order.proofs.standing.lowest_empty.Given as goal
 
 abbrev pub invariant-loop-i : goal.invariant-loop-i

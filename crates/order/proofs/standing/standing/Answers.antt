@@ -1,7 +1,6 @@
 -- `order::standing::standing` meets its contract: in a session in order, the lowest line that ends where it begins is the lowest empty one.
 use mathlib.Core.Path.{◌≡◌, sym, ap, ◌∙◌}
 use native.Mathlib.Omega.{arith}
-use borrow.Author.Rules.{rules}
 use Rattle.rows.specs.Limits.{unknowns}
 use Rattle.ledger.specs.Apply.{pass}
 use Rattle.session.specs.Cells.{Tables, tables}

@@ -6,7 +6,6 @@ use Rattle.rows.specs.Limits.{unknowns}
 use Rattle.rows.specs.Form.{form_of, legal}
 use Rattle.ledger.specs.Bytes.{form_from}
 use Rattle.rules.proofs.FieldLaws.{form-refused, form-made}
-use borrow.Author.Rules.{rules}
 use Rattle.rules.proofs.entries.form.Goals as goal
 
 pub returns-then-not-legal : goal.returns-then-not-legal

@@ -2,7 +2,6 @@ use native.Mathlib.Nat.{sub-zero}
 use native.Mathlib.Omega.{arith}
 use Rattle.rows.specs.Limits.{unknowns}
 use Rattle.rules.proofs.FieldLaws.{premise-refused, premise-made}
-use borrow.Author.Rules.{rules}
 use Rattle.rules.proofs.entries.premise.Goals as goal
 
 pub returns-in-Fail : goal.returns-in-Fail

@@ -2,7 +2,6 @@
 use mathlib.Core.Path.{sym, ap, ◌∙◌}
 use Rattle.session.specs.Calls.{start_of}
 use Rattle.zarnowiej.specs.Crossing.{begun, begun_by}
-use borrow.Author.Rules.{rules}
 use Rattle.zarnowiej.proofs.plain.begun_out.Goals as goal
 
 pub returns-in-Started : goal.returns-in-Started

@@ -2,7 +2,6 @@
 use mathlib.Core.Path.{sym, ap, ◌∙◌}
 use Rattle.session.specs.Answers.{made_of, answer_of}
 use Rattle.zarnowiej.specs.Crossing.{fed, made_by, fed_by}
-use borrow.Author.Rules.{rules}
 use Rattle.zarnowiej.proofs.plain.fed_out.Goals as goal
 
 pub returns-in-Form : goal.returns-in-Form

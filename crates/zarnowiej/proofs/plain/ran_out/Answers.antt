@@ -3,7 +3,6 @@ use mathlib.Core.Path.{sym, ap, ◌∙◌}
 use Rattle.session.specs.Answers.{finding_of}
 use Rattle.stream.specs.Run.{stop_number}
 use Rattle.zarnowiej.specs.Crossing.{ran}
-use borrow.Author.Rules.{rules}
 use Rattle.zarnowiej.proofs.plain.ran_out.Goals as goal
 
 pub returns-in-Pass : goal.returns-in-Pass

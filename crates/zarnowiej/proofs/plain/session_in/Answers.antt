@@ -1,9 +1,8 @@
 -- `plain::session_in` meets its contract. Invariant: the first i marks have crossed.
 use mathlib.Core.Path.{◌≡◌, ap}
-use mathlib.Core.List.{map}
-use Prim.Native.Nat.{◌-◌, ◌≤◌, ◌<◌}
+use Prim.Native.Nat.{◌<◌}
 use native.Mathlib.Omega.{arith}
-use lib.ListN.{length, take, length-map, length-set}
+use lib.ListN.{length, length-set}
 use borrow.Author.Rules.{rules}
 use Rattle.ledger.specs.Limits.{most_levels}
 use Rattle.zarnowiej.specs.Crossing.{mark_in}

@@ -1,13 +1,10 @@
 -- `plain::session_out` meets its contract. Invariant: the first i marks have crossed.
-use mathlib.Core.Path.{◌≡◌, ap}
+use mathlib.Core.Path.{◌≡◌}
 use mathlib.Core.List.{map}
-use Prim.Native.Nat.{◌-◌, ◌≤◌, ◌<◌}
-use native.Mathlib.Omega.{arith}
-use lib.ListN.{length, take, length-map, length-set}
-use borrow.Author.Rules.{rules}
+use Prim.Native.Nat.{◌-◌, ◌≤◌}
+use lib.ListN.{length, take}
 use Rattle.ledger.specs.Limits.{most_levels}
 use Rattle.zarnowiej.specs.Crossing.{mark_out}
-use Rattle.zarnowiej.proofs.MarksCross.{crosses, all_cross}
 use Rattle.zarnowiej.proofs.plain.session_out.Given as goal
 
 abbrev pub invariant-loop-i : goal.invariant-loop-i

@@ -2,7 +2,6 @@
 use mathlib.Core.Path.{sym, ap, ◌∙◌}
 use Rattle.session.specs.Calls.{no_standing, stands_of}
 use Rattle.zarnowiej.specs.Crossing.{standing_out}
-use borrow.Author.Rules.{rules}
 use Rattle.zarnowiej.proofs.plain.stands_out.Goals as goal
 
 pub returns-in-Refuted : goal.returns-in-Refuted

@@ -3,17 +3,18 @@
 
 ghost use Rattle.std.specs.Prelude.{◌<◌};
 
-use libc::STDOUT_FILENO;
 use printing::print;
 use rows::Reached;
+use std::io;
+use std::io::{BufWriter, Write};
 
-fn print_signed(x: i64) {
+fn print_signed<W: Write>(out: &mut W, x: i64) -> io::Result<()> {
     if x < 0 {
-        print(b"-");
-        io::print_decimal(STDOUT_FILENO, (-1 - x) as u64 + 1);
-    } else {
-        io::print_decimal(STDOUT_FILENO, x as u64);
+        let size = (-1 - x) as u64 + 1;
+        return write!(out, "-{size}");
     }
+    let size = x as u64;
+    write!(out, "{size}")
 }
 
 // As many forms as a sum may have.
@@ -47,38 +48,46 @@ fn single(at: usize, number: i32) -> [i32; CELLS]
     table
 }
 
-fn show(table: &[i32], picks: &[u16], multipliers: &[i32], modulus: i32) {
+fn show<W: Write>(
+    out: &mut W,
+    table: &[i32],
+    picks: &[u16],
+    multipliers: &[i32],
+    modulus: i32,
+) -> io::Result<()> {
     if !sums::summable::is_summable(table, picks, multipliers) {
-        print(b"not summable\n");
-        return;
+        return print(out, b"not summable\n");
     }
     match sums::combine(table, picks, multipliers, modulus) {
         Reached::Coefficient(unknown, sum) => {
-            print(b"unknown ");
-            io::print_decimal(STDOUT_FILENO, unknown as u64);
-            print(b" sum ");
-            print_signed(sum);
+            write!(out, "unknown {unknown} sum ")?;
+            print_signed(out, sum)?;
         }
         Reached::Constant(sum) => {
-            print(b"constant ");
-            print_signed(sum);
+            print(out, b"constant ")?;
+            print_signed(out, sum)?;
         }
     }
-    print(b"\n");
+    print(out, b"\n")
 }
 
 // The moduli at which FK and CL are at their corners.
-fn show_moduli(table: &[i32], picks: &[u16], multipliers: &[i32]) {
-    show(table, picks, multipliers, 0);
-    show(table, picks, multipliers, 1);
-    show(table, picks, multipliers, 65_535);
+fn show_moduli<W: Write>(
+    out: &mut W,
+    table: &[i32],
+    picks: &[u16],
+    multipliers: &[i32],
+) -> io::Result<()> {
+    show(out, table, picks, multipliers, 0)?;
+    show(out, table, picks, multipliers, 1)?;
+    show(out, table, picks, multipliers, 65_535)
 }
 
 // Every form of the table, each m times.
-fn all_forms(title: &[u8], table: [i32; CELLS], m: i32) {
-    print(title);
+fn all_forms<W: Write>(out: &mut W, title: &[u8], table: [i32; CELLS], m: i32) -> io::Result<()> {
+    print(out, title)?;
     let multipliers = [m; rows::MOST_TERMS];
-    show_moduli(&table, &PICKS, &multipliers);
+    show_moduli(out, &table, &PICKS, &multipliers)
 }
 
 const PICKS: [u16; 32] = [
@@ -87,42 +96,65 @@ const PICKS: [u16; 32] = [
 ];
 
 // Terms that may not be summed: too many, too large, without a multiplier each.
-fn outside_terms() {
-    print(b"terms outside\n");
+fn outside_terms<W: Write>(out: &mut W) -> io::Result<()> {
+    print(out, b"terms outside\n")?;
     let table = single(0, 0);
     let multipliers = [1_000_000i32; 33];
-    show(&table, &[0u16; 33], &multipliers, 0);
-    show(&table, &PICKS, &[1_000_001i32; 32], 0);
-    show(&table, &PICKS, &multipliers, 0);
+    show(out, &table, &[0u16; 33], &multipliers, 0)?;
+    show(out, &table, &PICKS, &[1_000_001i32; 32], 0)?;
+    show(out, &table, &PICKS, &multipliers, 0)
 }
 
 // A form that the table lacks a cell of, a number that is too large, and the like of it without that form.
-fn outside_cells() {
-    print(b"cells outside, and inside\n");
+fn outside_cells<W: Write>(out: &mut W) -> io::Result<()> {
+    print(out, b"cells outside, and inside\n")?;
     let table = single(479, 1_000_000_001);
     let multipliers = [1_000_000i32; 32];
-    show(&table[0..479], &PICKS, &multipliers, 0);
-    show(&table, &PICKS, &multipliers, 0);
-    show(&table, &PICKS[0..31], &multipliers[0..31], 0);
+    show(out, &table[0..479], &PICKS, &multipliers, 0)?;
+    show(out, &table, &PICKS, &multipliers, 0)?;
+    show(out, &table, &PICKS[0..31], &multipliers[0..31], 0)
 }
 
-fn main() {
+fn main(rt: HostRuntime) -> io::Result<()> {
+    let mut out = BufWriter::new(rt.alloc(), rt.stdout())?;
     let high = filled(1_000_000_000, 1_000_000_000, 1_000_000_000);
     let low = filled(-1_000_000_000, -1_000_000_000, -1_000_000_000);
-    all_forms(b"largest numbers\n", high, 1_000_000);
-    all_forms(b"largest numbers, negative multipliers\n", high, -1_000_000);
-    all_forms(b"smallest numbers\n", low, 1_000_000);
-    all_forms(b"smallest numbers, negative multipliers\n", low, -1_000_000);
+    all_forms(&mut out, b"largest numbers\n", high, 1_000_000)?;
+    all_forms(
+        &mut out,
+        b"largest numbers, negative multipliers\n",
+        high,
+        -1_000_000,
+    )?;
+    all_forms(&mut out, b"smallest numbers\n", low, 1_000_000)?;
+    all_forms(
+        &mut out,
+        b"smallest numbers, negative multipliers\n",
+        low,
+        -1_000_000,
+    )?;
     let cancelling = filled(-1_000_000_000, 1_000_000_000, -1_000_000_000);
     all_forms(
+        &mut out,
         b"coefficients that cancel, a negative constant\n",
         cancelling,
         1_000_000,
-    );
+    )?;
     let divided = filled(-1, 65_535, 65_535);
-    all_forms(b"multiples of the largest divisor\n", divided, 1_000_000);
+    all_forms(
+        &mut out,
+        b"multiples of the largest divisor\n",
+        divided,
+        1_000_000,
+    )?;
     let last = single(14, 1);
-    all_forms(b"the last unknown of the first form\n", last, 1_000_000);
-    outside_terms();
-    outside_cells();
+    all_forms(
+        &mut out,
+        b"the last unknown of the first form\n",
+        last,
+        1_000_000,
+    )?;
+    outside_terms(&mut out)?;
+    outside_cells(&mut out)?;
+    out.flush()
 }

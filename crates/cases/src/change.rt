@@ -3,6 +3,8 @@
 use fields::numbers::{byte_at, i32_at, u16_at};
 use printing::{print, print_numbers};
 use session::state::{Mark, Session};
+use std::io;
+use std::io::Write;
 use trial::{Trial, bad, with_form_cell, with_line_cell, with_pool_cell};
 
 // The number of two bytes that begins so many bytes before the end, 0 if there is none.
@@ -38,7 +40,7 @@ fn with_counts(mut trial: Trial, record: &[u8]) -> Trial {
     trial
 }
 
-fn with_mark(mut trial: Trial, record: &[u8]) -> Trial {
+fn with_mark<W: Write>(out: &mut W, mut trial: Trial, record: &[u8]) -> io::Result<Trial> {
     let mut session = trial.session;
     let mark = Mark {
         forms: number(record, 6),
@@ -47,68 +49,85 @@ fn with_mark(mut trial: Trial, record: &[u8]) -> Trial {
     };
     let level = place(record, 8);
     if Session::MOST_LEVELS <= level {
-        return bad(trial);
+        return bad(out, trial);
     }
     session.marks[level] = mark;
     trial.session = session;
-    trial
+    Ok(trial)
 }
 
 // A cell of the forms has four bytes.
-fn with_form(trial: Trial, record: &[u8]) -> Trial {
+fn with_form<W: Write>(out: &mut W, trial: Trial, record: &[u8]) -> io::Result<Trial> {
     if record.len() < 4 {
-        return bad(trial);
+        return bad(out, trial);
     }
-    with_form_cell(trial, place(record, 6), i32_at(record, record.len() - 4))
+    with_form_cell(
+        out,
+        trial,
+        place(record, 6),
+        i32_at(record, record.len() - 4),
+    )
 }
 
 // change: counts of forms, lines, literals and open levels; mark, a place, forms, lines and literals; or forms, pool or lines, a place and
 // what the cell there becomes.
-pub fn change(trial: Trial, record: &[u8]) -> Trial {
+pub fn change<W: Write>(out: &mut W, trial: Trial, record: &[u8]) -> io::Result<Trial> {
     match byte_at(record, 0) {
-        b'c' => with_counts(trial, record),
-        b'm' => with_mark(trial, record),
-        b'f' => with_form(trial, record),
-        b'p' => with_pool_cell(trial, place(record, 4), number(record, 2)),
-        b'l' => with_line_cell(trial, place(record, 4), number(record, 2)),
-        _ => bad(trial),
+        b'c' => Ok(with_counts(trial, record)),
+        b'm' => with_mark(out, trial, record),
+        b'f' => with_form(out, trial, record),
+        b'p' => with_pool_cell(out, trial, place(record, 4), number(record, 2)),
+        b'l' => with_line_cell(out, trial, place(record, 4), number(record, 2)),
+        _ => bad(out, trial),
     }
 }
 
 // So many cells from this place on.
-fn print_part(word: &[u8], cells: &[u16], from: usize, count: usize) {
+fn print_part<W: Write>(
+    out: &mut W,
+    word: &[u8],
+    cells: &[u16],
+    from: usize,
+    count: usize,
+) -> io::Result<()> {
     if cells.len() < from {
-        return print(b"bad command\n");
+        return print(out, b"bad command\n");
     }
     if cells.len() - from < count {
-        return print(b"bad command\n");
+        return print(out, b"bad command\n");
     }
     let end = from + count;
-    print_numbers(word, &cells[from..end]);
+    print_numbers(out, word, &cells[from..end])
 }
 
-fn print_cells(letter: u8, trial: Trial, from: usize, count: usize) {
+fn print_cells<W: Write>(
+    out: &mut W,
+    letter: u8,
+    trial: Trial,
+    from: usize,
+    count: usize,
+) -> io::Result<()> {
     if letter == b'p' {
-        return print_part(b"pool", &trial.pool, from, count);
+        return print_part(out, b"pool", &trial.pool, from, count);
     }
-    print_part(b"lines", &trial.lines, from, count)
+    print_part(out, b"lines", &trial.lines, from, count)
 }
 
-fn print_counts(s: Session) {
-    print_numbers(b"counts", &[s.forms, s.lines, s.literals, s.open]);
+fn print_counts<W: Write>(out: &mut W, s: Session) -> io::Result<()> {
+    print_numbers(out, b"counts", &[s.forms, s.lines, s.literals, s.open])
 }
 
 // print: counts; pool or lines, a place and how many cells from there on; or used, the cells of both that are in use.
-pub fn print_named(trial: Trial, record: &[u8]) {
+pub fn print_named<W: Write>(out: &mut W, trial: Trial, record: &[u8]) -> io::Result<()> {
     let session = trial.session;
     let letter = byte_at(record, 0);
     match letter {
-        b'c' => print_counts(session),
-        b'p' | b'l' => print_cells(letter, trial, place(record, 4), place(record, 2)),
+        b'c' => print_counts(out, session),
+        b'p' | b'l' => print_cells(out, letter, trial, place(record, 4), place(record, 2)),
         b'u' => {
-            print_cells(b'p', trial, 0, session.literals as usize);
-            print_cells(b'l', trial, 0, 2 * (session.lines as usize));
+            print_cells(out, b'p', trial, 0, session.literals as usize)?;
+            print_cells(out, b'l', trial, 0, 2 * (session.lines as usize))
         }
-        _ => print(b"bad command\n"),
+        _ => print(out, b"bad command\n"),
     }
 }

@@ -7,10 +7,19 @@ mod differ;
 mod reading;
 mod run;
 
-use libc::STDIN_FILENO;
+use std::io;
+use std::io::{BufWriter, Read, Write};
 
-fn main() {
-    let mut text = io::large_buffer();
-    let count = io::read_full(STDIN_FILENO, &mut text);
-    run::run(&text[..count]);
+// The most bytes of the input that are read.
+const MOST: u64 = 65_536;
+
+// What was read before a failure is run all the same.
+fn main(rt: HostRuntime) -> io::Result<()> {
+    let mut text = Vec::new(rt.alloc());
+    let read = rt.stdin().take(MOST).read_to_end(&mut text);
+    let mut out = BufWriter::new(rt.alloc(), rt.stdout())?;
+    run::run(&mut out, text.as_slice())?;
+    out.flush()?;
+    read?;
+    Ok(())
 }

@@ -8,10 +8,12 @@
 // times. In a record a letter stands for itself. A number is decimal, of one byte after a point, of four after a colon and of two after
 // neither, and a blank ends it. A star fills a form up with zeros.
 use printing::print;
+use std::io;
+use std::io::Write;
 
 const ROOM: usize = 256;
 
-#[derive(Drop)]
+#[derive(Clone, Copy)]
 pub struct Step {
     // A blank in a label, a hash in a remark, and else the bar or the > before the steps.
     pub place: u8,
@@ -127,25 +129,25 @@ pub fn in_step(mut step: Step, byte: u8) -> Step {
     }
 }
 
-fn in_label(step: Step, byte: u8) -> Step {
+fn in_label<W: Write>(out: &mut W, step: Step, byte: u8) -> io::Result<Step> {
     match byte {
-        b'|' | b'>' | b'#' => begun(byte),
+        b'|' | b'>' | b'#' => Ok(begun(byte)),
         _ => {
-            print(&[byte]);
-            step
+            print(out, &[byte])?;
+            Ok(step)
         }
     }
 }
 
 // The step after one byte more.
-pub fn read(step: Step, byte: u8) -> Step {
+pub fn read<W: Write>(out: &mut W, step: Step, byte: u8) -> io::Result<Step> {
     if byte == b'\n' {
-        return begun(b' ');
+        return Ok(begun(b' '));
     }
     let place = step.place;
     match place {
-        b' ' => in_label(step, byte),
-        b'#' => step,
-        _ => in_step(step, byte),
+        b' ' => in_label(out, step, byte),
+        b'#' => Ok(step),
+        _ => Ok(in_step(step, byte)),
     }
 }

@@ -9,57 +9,66 @@ use crate::reading::{Step, begun, in_step, read};
 use fields::numbers::byte_at;
 use printing::print;
 use session::state::Session;
+use std::io;
+use std::io::Write;
 use trial::calls::called;
 use trial::{Trial, bad, filled, least};
 
 // One record by value and, on a copy, with the session lent. Says so where the two differ in anything.
-fn feed(letter: u8, trial: Trial, record: &[u8]) -> Trial {
-    let fed = called(letter, trial, record);
-    let lent = called(b'l', trial, record);
+fn feed<W: Write>(out: &mut W, letter: u8, trial: Trial, record: &[u8]) -> io::Result<Trial> {
+    let fed = called(out, letter, trial, record)?;
+    let lent = called(out, b'l', trial, record)?;
     if trials_differ(fed, lent) {
-        print(b"differs when lent\n");
+        print(out, b"differs when lent\n")?;
     }
-    fed
+    Ok(fed)
 }
 
 // One step; none, if no word was read.
-fn act(trial: Trial, letter: u8, record: &[u8]) -> Trial {
+fn act<W: Write>(out: &mut W, trial: Trial, letter: u8, record: &[u8]) -> io::Result<Trial> {
     match letter {
-        0 => trial,
-        b's' | b'o' | b'r' => called(letter, trial, record),
-        b'f' | b'a' => feed(letter, trial, record),
-        b't' => with_lengths(trial, record),
-        b'c' => change(trial, record),
+        0 => Ok(trial),
+        b's' | b'o' | b'r' => called(out, letter, trial, record),
+        b'f' | b'a' => feed(out, letter, trial, record),
+        b't' => Ok(with_lengths(trial, record)),
+        b'c' => change(out, trial, record),
         b'p' => {
-            print_named(trial, record);
-            trial
+            print_named(out, trial, record)?;
+            Ok(trial)
         }
-        _ => bad(trial),
+        _ => bad(out, trial),
     }
 }
 
 // In these bytes a step's word stands at the front, and its record between the two places.
-fn repeat(trial: Trial, bytes: &[u8], from: usize, to: usize, times: u32) -> Trial {
+fn repeat<W: Write>(
+    out: &mut W,
+    trial: Trial,
+    bytes: &[u8],
+    from: usize,
+    to: usize,
+    times: u32,
+) -> io::Result<Trial> {
     let end = least(to, bytes.len());
     let start = least(from, end);
     let mut present = trial;
     let mut i: u32 = 0;
     while i < times {
-        let next = act(present, byte_at(bytes, 0), &bytes[start..end]);
+        let next = act(out, present, byte_at(bytes, 0), &bytes[start..end])?;
         present = next;
         i += 1;
     }
-    present
+    Ok(present)
 }
 
-fn run_step(trial: Trial, step: Step) -> Trial {
+fn run_step<W: Write>(out: &mut W, trial: Trial, step: Step) -> io::Result<Trial> {
     let whole = in_step(step, b' ');
     let bytes = whole.bytes;
-    repeat(trial, &bytes, whole.from, whole.count, whole.times)
+    repeat(out, trial, &bytes, whole.from, whole.count, whole.times)
 }
 
 // Holds what the steps of a case work on, and what the next case begins with.
-pub fn run(text: &[u8]) {
+pub fn run<W: Write>(out: &mut W, text: &[u8]) -> io::Result<()> {
     let mut present = filled(7, Session::FORM_TABLE, Session::POOL, Session::LINE_TABLE);
     let mut kept = present;
     let mut step = begun(b' ');
@@ -67,7 +76,7 @@ pub fn run(text: &[u8]) {
     while i < text.len() {
         let byte = text[i];
         if byte == b';' || byte == b'\n' {
-            let after = run_step(present, step);
+            let after = run_step(out, present, step)?;
             present = after;
         }
         if byte == b'\n' {
@@ -76,8 +85,9 @@ pub fn run(text: &[u8]) {
             }
             present = kept;
         }
-        let longer = read(step, byte);
+        let longer = read(out, step, byte)?;
         step = longer;
         i += 1;
     }
+    Ok(())
 }

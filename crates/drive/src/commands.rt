@@ -3,6 +3,8 @@ ghost use Rattle.std.specs.Prelude.{◌<◌, ◌≤◌};
 
 use fields::numbers::{byte_at, i32_at};
 use session::state::{Mark, Session};
+use std::io;
+use std::io::Write;
 use trial::{
     FORM_ROOM, LINE_ROOM, POOL_ROOM, Trial, bad, filled, with_form_cell, with_line_cell,
     with_pool_cell,
@@ -37,14 +39,14 @@ fn length_of(text: &[u8], table: usize) -> usize
 }
 
 // T: other lengths, over tables that are 0 throughout, and the fresh session.
-pub fn lend(s: Trial, text: &[u8]) -> Trial {
+pub fn lend<W: Write>(out: &mut W, s: Trial, text: &[u8]) -> io::Result<Trial> {
     let f = length_of(text, 0);
     let p = length_of(text, 1);
     let l = length_of(text, 2);
     if FORM_ROOM < f || POOL_ROOM < p || LINE_ROOM < l {
-        return bad(s);
+        return bad(out, s);
     }
-    filled(0, f, p, l)
+    Ok(filled(0, f, p, l))
 }
 
 fn mark_of(text: &[u8], level: usize) -> Mark
@@ -86,19 +88,19 @@ pub fn set_session(mut s: Trial, text: &[u8]) -> Trial {
 }
 
 // F: another cell of the forms, which has four bytes.
-pub fn set_form(s: Trial, text: &[u8]) -> Trial {
+pub fn set_form<W: Write>(out: &mut W, s: Trial, text: &[u8]) -> io::Result<Trial> {
     if text.len() < 7 {
-        return bad(s);
+        return bad(out, s);
     }
-    with_form_cell(s, number(text, 1) as usize, i32_at(text, 3))
+    with_form_cell(out, s, number(text, 1) as usize, i32_at(text, 3))
 }
 
 // P: another cell of the pool.
-pub fn set_literal(s: Trial, text: &[u8]) -> Trial {
-    with_pool_cell(s, number(text, 1) as usize, number(text, 3))
+pub fn set_literal<W: Write>(out: &mut W, s: Trial, text: &[u8]) -> io::Result<Trial> {
+    with_pool_cell(out, s, number(text, 1) as usize, number(text, 3))
 }
 
 // L: another cell of the lines.
-pub fn set_line(s: Trial, text: &[u8]) -> Trial {
-    with_line_cell(s, number(text, 1) as usize, number(text, 3))
+pub fn set_line<W: Write>(out: &mut W, s: Trial, text: &[u8]) -> io::Result<Trial> {
+    with_line_cell(out, s, number(text, 1) as usize, number(text, 3))
 }

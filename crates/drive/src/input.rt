@@ -1,9 +1,10 @@
 // Reads standard input in pieces, and obeys every command that is there whole. What is left of a piece stands before the next one.
-ghost use Rattle.std.specs.Prelude.{◌≤◌, length};
+ghost use Rattle.std.specs.Prelude.{◌≤◌, length, IfOk};
 
 use crate::say::{print_bad, print_unread};
 use crate::steps::steps;
-use libc::STDIN_FILENO;
+use std::io;
+use std::io::{Read, Write};
 use trial::filled;
 
 // Room for the longest command, of 65,538 bytes, and much more, so that there is always room to read into.
@@ -22,43 +23,56 @@ fn move_to_front(buffer: &mut [u8], from: usize, end: usize)
 
 // Where the bytes end after one read, behind those that wait: at the same place, if there is nothing more. A failed read is said, and is no
 // end of the input; at the end, bytes that wait are a command cut short.
-fn receive(buffer: &mut [u8], held: usize) -> usize
+fn receive<R: Read, W: Write, E: Write>(
+    input: &mut R,
+    out: &mut W,
+    err: &mut E,
+    buffer: &mut [u8],
+    held: usize,
+) -> io::Result<usize>
     requires { held ≤ length buffer.old }
-    ensures { result ≤ length buffer.new }
+    ensures { IfOk result (λ end. end ≤ length buffer.new) }
 {
-    let got = libc::read(STDIN_FILENO, &mut buffer[held..]);
-    if got < 0 {
-        print_unread();
-        return held;
-    }
+    let Ok(got) = input.read(&mut buffer[held..]) else {
+        print_unread(err)?;
+        return Ok(held);
+    };
     if got == 0 {
         if 0 < held {
-            print_bad();
+            print_bad(out)?;
         }
-        return held;
+        return Ok(held);
     }
-    held + io::count(got, &buffer[held..])
+    Ok(held + got)
 }
 
-// Nothing says that the input ends, and a loop has to: it counts its turns down, from a number that no run uses up.
-pub fn drive(buffer: &mut [u8]) {
+// Nothing says that the input ends, and a loop has to: it counts its turns down, from a number that no run uses up. What a turn printed is
+// there to see before the next one waits for input.
+pub fn drive<R: Read, W: Write, E: Write>(
+    input: &mut R,
+    out: &mut W,
+    err: &mut E,
+    buffer: &mut [u8],
+) -> io::Result<()> {
     let mut present = filled(0, 0, 0, 0);
     let mut held: usize = 0;
     let mut turns = u64::MAX;
     while turns > 0 {
-        let end = receive(buffer, held);
+        out.flush()?;
+        let end = receive(input, out, err, buffer, held)?;
         if end == held {
-            return;
+            return Ok(());
         }
-        let next = steps(present, &buffer[0..end]);
+        let next = steps(out, present, &buffer[0..end])?;
         let after = next.state;
         let used = next.used;
         if after.is_bad {
-            return;
+            return Ok(());
         }
         move_to_front(buffer, used, end);
         present = after;
         held = end - used;
         turns -= 1;
     }
+    Ok(())
 }

@@ -7,7 +7,12 @@ mod input;
 mod say;
 mod steps;
 
-fn main() {
+use std::io;
+use std::io::{BufWriter, Write};
+
+fn main(rt: HostRuntime) -> io::Result<()> {
+    let mut out = BufWriter::new(rt.alloc(), rt.stdout())?;
     let mut buffer = [0u8; input::BUFFER];
-    input::drive(&mut buffer);
+    input::drive(&mut rt.stdin(), &mut out, &mut rt.stderr(), &mut buffer)?;
+    out.flush()
 }

@@ -1,43 +1,45 @@
 // Prints: the session, and a sum over each table.
-use libc::STDERR_FILENO;
 use printing::{print, print_number};
 use session::state::{Mark, Session};
+use std::io;
+use std::io::Write;
 use trial::{Trial, least};
 
-pub fn print_bad() {
-    print(b"bad command\n");
+pub fn print_bad<W: Write>(out: &mut W) -> io::Result<()> {
+    print(out, b"bad command\n")
 }
 
-pub fn print_unread() {
-    io::write_all(STDERR_FILENO, b"standard input cannot be read\n");
+pub fn print_unread<E: Write>(err: &mut E) -> io::Result<()> {
+    print(err, b"standard input cannot be read\n")
 }
 
-fn print_count(n: u16) {
-    print_number(n as u64);
+fn print_count<W: Write>(out: &mut W, n: u16) -> io::Result<()> {
+    print_number(out, n as u64)
 }
 
-fn print_mark(mark: Mark) {
-    print_count(mark.forms);
-    print_count(mark.lines);
-    print_count(mark.literals);
+fn print_mark<W: Write>(out: &mut W, mark: Mark) -> io::Result<()> {
+    print_count(out, mark.forms)?;
+    print_count(out, mark.lines)?;
+    print_count(out, mark.literals)
 }
 
-fn print_marks(marks: [Mark; Session::MOST_LEVELS]) {
+fn print_marks<W: Write>(out: &mut W, marks: [Mark; Session::MOST_LEVELS]) -> io::Result<()> {
     let mut i: usize = 0;
     while i < Session::MOST_LEVELS {
-        print_mark(marks[i]);
+        print_mark(out, marks[i])?;
         i += 1;
     }
+    Ok(())
 }
 
 // The counts, and then every mark.
-fn print_session(session: Session) {
-    print(b"session");
-    print_mark(session.counts());
-    print_count(session.open);
+fn print_session<W: Write>(out: &mut W, session: Session) -> io::Result<()> {
+    print(out, b"session")?;
+    print_mark(out, session.counts())?;
+    print_count(out, session.open)?;
     let marks = session.marks;
-    print_marks(marks);
-    print(b"\n");
+    print_marks(out, marks)?;
+    print(out, b"\n")
 }
 
 // 2^32.
@@ -81,12 +83,12 @@ fn sum_of_numbers(cells: &[u16], lent: usize) -> u64 {
 }
 
 // The two lines after each answer.
-pub fn print_trial(s: Trial) {
+pub fn print_trial<W: Write>(out: &mut W, s: Trial) -> io::Result<()> {
     let session = s.session;
-    print_session(session);
-    print(b"cells");
-    print_number(sum_of_forms(&s.forms, s.lent_forms));
-    print_number(sum_of_numbers(&s.pool, s.lent_pool));
-    print_number(sum_of_numbers(&s.lines, s.lent_lines));
-    print(b"\n");
+    print_session(out, session)?;
+    print(out, b"cells")?;
+    print_number(out, sum_of_forms(&s.forms, s.lent_forms))?;
+    print_number(out, sum_of_numbers(&s.pool, s.lent_pool))?;
+    print_number(out, sum_of_numbers(&s.lines, s.lent_lines))?;
+    print(out, b"\n")
 }

@@ -2,12 +2,14 @@
 use crate::input::{Left, fill, is_end};
 use pieces::{Judged, Next, Progress};
 use session::state::Session;
+use std::io;
+use std::io::{Read, Write};
 
 // Large, so that the order of the tables is tested seldom: once for each piece. No record is nearly as long.
 const BUFFER: usize = 131_072;
 
 // How far a file is judged, and what is left of it.
-#[derive(Drop)]
+#[derive(Clone, Copy)]
 struct Reading {
     judged: Judged,
     left: Left,
@@ -23,7 +25,7 @@ fn is_over(reading: Reading) -> bool {
     match left {
         Left::More => false,
         Left::Nothing => true,
-        Left::Unreadable => true,
+        Left::Unreadable(_) => true,
     }
 }
 
@@ -36,8 +38,8 @@ fn held(next: Next) -> usize {
 }
 
 // One piece more. What is read before a failure is judged too: a bad record in it decides the file whatever follows.
-fn read_piece(
-    fd: i32,
+fn read_piece<R: Read>(
+    file: &mut R,
     reading: Reading,
     forms: &mut [i32],
     pool: &mut [u16],
@@ -46,7 +48,7 @@ fn read_piece(
 ) -> Reading {
     let before = reading.judged;
     let next = before.next;
-    let filled = fill(fd, buffer, held(next));
+    let filled = fill(file, buffer, held(next));
     let left = filled.left;
     let judged = pieces::judge_piece(
         before.progress,
@@ -61,13 +63,13 @@ fn read_piece(
 }
 
 // Nothing says that a file ends, so the pieces are counted down, from a number that no file uses up.
-fn judge(
-    fd: i32,
+fn judge<R: Read>(
+    file: &mut R,
     forms: &mut [i32],
     pool: &mut [u16],
     lines: &mut [u16],
     buffer: &mut [u8],
-) -> Judged {
+) -> Reading {
     let begun = session::start::start(forms, pool, lines);
     let session = begun.session;
     let progress = Progress {
@@ -85,26 +87,43 @@ fn judge(
     };
     let mut pieces = u64::MAX;
     while pieces > 0 && !is_over(reading) {
-        let next = read_piece(fd, reading, forms, pool, lines, buffer);
+        let next = read_piece(file, reading, forms, pool, lines, buffer);
         reading = next;
         pieces -= 1;
     }
-    reading.judged
+    reading
 }
 
-pub fn replay(fd: i32, name: &[u8]) {
+// Why a file that is not decided is not.
+fn reason(left: Left) -> io::Error {
+    match left {
+        Left::Unreadable(error) => error,
+        Left::More => io::Error::from(io::ErrorKind::FileTooLarge),
+        Left::Nothing => io::Error::from(io::ErrorKind::UnexpectedEof),
+    }
+}
+
+// All that is printed has been written once this is over, and before a reason is said.
+pub fn replay<R: Read, W: Write, H: Eprint + AllocGlobal>(
+    rt: &H,
+    file: &mut R,
+    name: &str,
+    out: &mut W,
+) -> io::Result<()> {
     let mut forms = [0i32; Session::FORM_TABLE];
     let mut pool = [0u16; Session::POOL];
     let mut lines = [0u16; Session::LINE_TABLE];
     let mut buffer = [0u8; BUFFER];
-    let judged = judge(fd, &mut forms, &mut pool, &mut lines, &mut buffer);
+    let reading = judge(file, &mut forms, &mut pool, &mut lines, &mut buffer);
+    let judged = reading.judged;
     let next = judged.next;
     let Next::Decided(stop) = next else {
-        os::fail(name);
-        return;
+        out.flush()?;
+        return crate::say::unread(rt, name, reason(reading.left));
     };
     let progress = judged.progress;
     let standing = order::standing::standing(progress.session, &forms, &pool, &lines);
-    crate::say::totals(progress, stop);
-    printing::print_standing(standing);
+    crate::say::totals(out, progress, stop)?;
+    printing::print_standing(out, standing)?;
+    out.flush()
 }

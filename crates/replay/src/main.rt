@@ -5,37 +5,84 @@ mod file;
 mod input;
 mod say;
 
-use libc::STDIN_FILENO;
+use std::env::{Env, FillError};
+use std::fs::Files;
+use std::io::{BufWriter, Write};
+use std::{fs, io};
 
-// The file that argument i names. Where there are several, its name is printed first.
-fn replay_named(i: usize, several: bool) {
-    let mut name = io::buffer();
-    let length = os::arg(i, &mut name);
-    if os::errno() != 0 {
-        os::fail(b"name of a file");
-        return;
+// The longest name of a file, and its end.
+const NAME: usize = 4096;
+
+// The system's numbers for a name that is too long, and for one that is not there.
+const TOO_LONG: i32 = 36;
+
+const NOT_THERE: i32 = 22;
+
+fn reason(why: FillError) -> io::Error {
+    match why {
+        FillError::TooLong => io::Error::from_raw_os_error(TOO_LONG),
+        FillError::NotPresent => io::Error::from_raw_os_error(NOT_THERE),
     }
-    let fd = os::open_read(&name[..length]);
-    if fd < 0 {
-        os::fail(&name[..length]);
-        return;
-    }
-    if several {
-        say::title(&name[..length]);
-    }
-    file::replay(fd, &name[..length]);
-    libc::close(fd);
 }
 
-fn main() {
-    let count = os::arg_count();
+// One file. Where there are several, its name is printed first.
+fn replay_file<H: Files + Eprint + AllocGlobal, W: Write>(
+    rt: &H,
+    name: &str,
+    several: bool,
+    out: &mut W,
+) -> io::Result<()> {
+    let mut file = match fs::open(rt, name) {
+        Ok(file) => file,
+        Err(why) => return say::unread(rt, name, why),
+    };
+    if several {
+        say::title(out, name)?;
+    }
+    file::replay(rt, &mut file, name, out)
+}
+
+// The file that argument i names.
+fn replay_named<H: Env + Files + Eprint + AllocGlobal, W: Write>(
+    rt: &H,
+    i: usize,
+    several: bool,
+    out: &mut W,
+) -> io::Result<()> {
+    let mut bytes = [0u8; NAME];
+    let length = match rt.arg(i, &mut bytes) {
+        Ok(length) => length,
+        Err(why) => return say::unread(rt, "name of a file", reason(why)),
+    };
+    let Ok(name) = std::str::from_utf8(&bytes[..length]) else {
+        let why = io::Error::new(io::ErrorKind::InvalidData, "not UTF-8");
+        return say::unread(rt, "name of a file", why);
+    };
+    replay_file(rt, name, several, out)
+}
+
+// How many arguments there are, the program's name among them.
+fn arg_count<H: Env>(rt: &H) -> usize {
+    let mut count: usize = 0;
+    while count < usize::MAX {
+        if let Err(FillError::NotPresent) = rt.arg(count, &mut []) {
+            return count;
+        }
+        count += 1;
+    }
+    count
+}
+
+fn main(rt: HostRuntime) -> io::Result<()> {
+    let mut out = BufWriter::new(rt.alloc(), rt.stdout())?;
+    let count = arg_count(&rt);
     if count < 2 {
-        file::replay(STDIN_FILENO, b"standard input");
-        return;
+        return file::replay(&rt, &mut rt.stdin(), "standard input", &mut out);
     }
     let mut i: usize = 1;
     while i < count {
-        replay_named(i, 2 < count);
+        replay_named(&rt, i, 2 < count, &mut out)?;
         i += 1;
     }
+    Ok(())
 }

@@ -7,9 +7,11 @@ use printing::{
 };
 use session::answers::{Answer, Made, Verdict, number};
 use session::state::Session;
+use std::io;
+use std::io::Write;
 
 // The session that a call left, and the number of a feed's answer.
-#[derive(Drop)]
+#[derive(Clone, Copy)]
 struct Outcome {
     session: Session,
     answer: u32,
@@ -28,104 +30,123 @@ fn number_of(answer: Answer) -> u32 {
 }
 
 // What a feed came to, with its answer printed for f alone.
-fn told(letter: u8, fed: Fed) -> Outcome {
+fn told<W: Write>(out: &mut W, letter: u8, fed: Fed) -> io::Result<Outcome> {
     let session = fed.session;
     let answer = fed.answer;
     if letter == b'f' {
-        print_answer(answer);
+        print_answer(out, answer)?;
     }
-    Outcome {
+    Ok(Outcome {
         session,
         answer: number_of(answer),
-    }
+    })
 }
 
-fn fed(
+fn fed<W: Write>(
+    out: &mut W,
     letter: u8,
     s: Session,
     forms: &mut [i32],
     pool: &mut [u16],
     lines: &mut [u16],
     record: &[u8],
-) -> Outcome {
+) -> io::Result<Outcome> {
     if letter == b'l' {
-        return told(letter, lent::feed_by_lending(s, forms, pool, lines, record));
+        let lent = lent::feed_by_lending(s, forms, pool, lines, record);
+        return told(out, letter, lent);
     }
-    told(letter, checker::feed::feed(s, forms, pool, lines, record))
+    let fed = checker::feed::feed(s, forms, pool, lines, record);
+    told(out, letter, fed)
 }
 
-fn print_found(verdict: Verdict) {
+fn print_found<W: Write>(out: &mut W, verdict: Verdict) -> io::Result<()> {
     match verdict {
-        Verdict::Pass => print(b"in order\n"),
-        Verdict::Fail(why) => print_refused(why),
+        Verdict::Pass => print(out, b"in order\n"),
+        Verdict::Fail(why) => print_refused(out, why),
     }
 }
 
 // The order test, or the question of the standing.
-fn ask(letter: u8, s: Session, forms: &[i32], pool: &[u16], lines: &[u16]) {
+fn ask<W: Write>(
+    out: &mut W,
+    letter: u8,
+    s: Session,
+    forms: &[i32],
+    pool: &[u16],
+    lines: &[u16],
+) -> io::Result<()> {
     if letter == b'o' {
-        return print_found(order::entered(s, forms, pool, lines));
+        let found = order::entered(s, forms, pool, lines);
+        return print_found(out, found);
     }
-    print_standing(order::standing::standing(s, forms, pool, lines));
+    let standing = order::standing::standing(s, forms, pool, lines);
+    print_standing(out, standing)
 }
 
-fn start(forms: &mut [i32], pool: &mut [u16], lines: &mut [u16]) -> Outcome {
+fn start<W: Write>(
+    out: &mut W,
+    forms: &mut [i32],
+    pool: &mut [u16],
+    lines: &mut [u16],
+) -> io::Result<Outcome> {
     let begun = session::start::start(forms, pool, lines);
     let session = begun.session;
     let start = begun.start;
-    print_start(start);
-    Outcome { session, answer: 0 }
+    print_start(out, start)?;
+    Ok(Outcome { session, answer: 0 })
 }
 
 // Records accepted, bytes accepted and the stopping number.
-fn print_run(records: usize, bytes: usize, stop: Verdict) {
-    print(b"run");
-    print_number(records as u64);
-    print_number(bytes as u64);
-    print_number(stop_number(stop) as u64);
-    print(b"\n");
+fn print_run<W: Write>(out: &mut W, records: usize, bytes: usize, stop: Verdict) -> io::Result<()> {
+    print(out, b"run")?;
+    print_number(out, records as u64)?;
+    print_number(out, bytes as u64)?;
+    print_number(out, stop_number(stop) as u64)?;
+    print(out, b"\n")
 }
 
-fn run(
+fn run<W: Write>(
+    out: &mut W,
     s: Session,
     forms: &mut [i32],
     pool: &mut [u16],
     lines: &mut [u16],
     bytes: &[u8],
-) -> Session {
+) -> io::Result<Session> {
     let ran = stream::run(s, forms, pool, lines, bytes);
     let stop = ran.stop;
-    print_run(ran.records, ran.bytes, stop);
-    ran.session
+    print_run(out, ran.records, ran.bytes, stop)?;
+    Ok(ran.session)
 }
 
-fn call(
+fn call<W: Write>(
+    out: &mut W,
     letter: u8,
     s: Session,
     forms: &mut [i32],
     pool: &mut [u16],
     lines: &mut [u16],
     record: &[u8],
-) -> Outcome {
+) -> io::Result<Outcome> {
     match letter {
-        b's' => start(forms, pool, lines),
+        b's' => start(out, forms, pool, lines),
         b'o' | b'r' => {
-            ask(letter, s, forms, pool, lines);
-            Outcome {
+            ask(out, letter, s, forms, pool, lines)?;
+            Ok(Outcome {
                 session: s,
                 answer: 0,
-            }
+            })
         }
-        b'n' => Outcome {
-            session: run(s, forms, pool, lines, record),
-            answer: 0,
-        },
-        _ => fed(letter, s, forms, pool, lines, record),
+        b'n' => {
+            let session = run(out, s, forms, pool, lines, record)?;
+            Ok(Outcome { session, answer: 0 })
+        }
+        _ => fed(out, letter, s, forms, pool, lines, record),
     }
 }
 
 // The call on as many cells as are lent.
-pub fn called(letter: u8, trial: Trial, record: &[u8]) -> Trial {
+pub fn called<W: Write>(out: &mut W, letter: u8, trial: Trial, record: &[u8]) -> io::Result<Trial> {
     let before = trial.session;
     let f = least(trial.lent_forms, FORM_ROOM);
     let p = least(trial.lent_pool, POOL_ROOM);
@@ -134,15 +155,16 @@ pub fn called(letter: u8, trial: Trial, record: &[u8]) -> Trial {
     let mut pool = trial.pool;
     let mut lines = trial.lines;
     let outcome = call(
+        out,
         letter,
         before,
         &mut forms[..f],
         &mut pool[..p],
         &mut lines[..l],
         record,
-    );
+    )?;
     let session = outcome.session;
-    Trial {
+    Ok(Trial {
         session,
         forms,
         pool,
@@ -152,5 +174,5 @@ pub fn called(letter: u8, trial: Trial, record: &[u8]) -> Trial {
         lent_lines: l,
         answer: outcome.answer,
         is_bad: trial.is_bad,
-    }
+    })
 }

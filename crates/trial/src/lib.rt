@@ -6,6 +6,8 @@ ghost use Rattle.std.specs.Prelude.{◌≤◌};
 
 use printing::print;
 use session::state::Session;
+use std::io;
+use std::io::Write;
 
 pub mod calls;
 
@@ -16,7 +18,7 @@ pub const POOL_ROOM: usize = Session::POOL + 64;
 
 pub const LINE_ROOM: usize = Session::LINE_TABLE + 64;
 
-#[derive(Drop)]
+#[derive(Clone, Copy)]
 pub struct Trial {
     pub session: Session,
     pub forms: [i32; FORM_ROOM],
@@ -48,37 +50,52 @@ pub fn filled(number: u16, lent_forms: usize, lent_pool: usize, lent_lines: usiz
 }
 
 // Says so, and does nothing.
-pub fn bad(mut trial: Trial) -> Trial {
-    print(b"bad command\n");
+pub fn bad<W: Write>(out: &mut W, mut trial: Trial) -> io::Result<Trial> {
+    print(out, b"bad command\n")?;
     trial.is_bad = true;
-    trial
+    Ok(trial)
 }
 
 // With another cell of the forms that are lent.
-pub fn with_form_cell(mut trial: Trial, at: usize, cell: i32) -> Trial {
+pub fn with_form_cell<W: Write>(
+    out: &mut W,
+    mut trial: Trial,
+    at: usize,
+    cell: i32,
+) -> io::Result<Trial> {
     if least(trial.lent_forms, FORM_ROOM) <= at {
-        return bad(trial);
+        return bad(out, trial);
     }
     trial.forms[at] = cell;
-    trial
+    Ok(trial)
 }
 
 // With another cell of the pool that is lent.
-pub fn with_pool_cell(mut trial: Trial, at: usize, cell: u16) -> Trial {
+pub fn with_pool_cell<W: Write>(
+    out: &mut W,
+    mut trial: Trial,
+    at: usize,
+    cell: u16,
+) -> io::Result<Trial> {
     if least(trial.lent_pool, POOL_ROOM) <= at {
-        return bad(trial);
+        return bad(out, trial);
     }
     trial.pool[at] = cell;
-    trial
+    Ok(trial)
 }
 
 // With another cell of the lines that are lent.
-pub fn with_line_cell(mut trial: Trial, at: usize, cell: u16) -> Trial {
+pub fn with_line_cell<W: Write>(
+    out: &mut W,
+    mut trial: Trial,
+    at: usize,
+    cell: u16,
+) -> io::Result<Trial> {
     if least(trial.lent_lines, LINE_ROOM) <= at {
-        return bad(trial);
+        return bad(out, trial);
     }
     trial.lines[at] = cell;
-    trial
+    Ok(trial)
 }
 
 pub fn least(a: usize, b: usize) -> usize

@@ -1,0 +1,4 @@
+use Rattle.replay.proofs.file.judge.Given as goal
+
+abbrev pub decreases-loop-pieces : goal.decreases-loop-pieces
+decreases-loop-pieces g l = l.pieces

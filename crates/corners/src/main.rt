@@ -115,24 +115,28 @@ fn outside_cells<W: Write>(out: &mut W) -> io::Result<()> {
     show(out, &table, &PICKS[0..31], &multipliers[0..31], 0)
 }
 
-fn main(rt: HostRuntime) -> io::Result<()> {
-    let mut out = BufWriter::new(rt.alloc(), rt.stdout())?;
+fn largest_numbers<W: Write>(out: &mut W) -> io::Result<()> {
     let high = filled(1_000_000_000, 1_000_000_000, 1_000_000_000);
     let low = filled(-1_000_000_000, -1_000_000_000, -1_000_000_000);
-    all_forms(&mut out, b"largest numbers\n", high, 1_000_000)?;
+    all_forms(out, b"largest numbers\n", high, 1_000_000)?;
     all_forms(
-        &mut out,
+        out,
         b"largest numbers, negative multipliers\n",
         high,
         -1_000_000,
     )?;
-    all_forms(&mut out, b"smallest numbers\n", low, 1_000_000)?;
+    all_forms(out, b"smallest numbers\n", low, 1_000_000)?;
     all_forms(
-        &mut out,
+        out,
         b"smallest numbers, negative multipliers\n",
         low,
         -1_000_000,
-    )?;
+    )
+}
+
+fn main(rt: HostRuntime) -> io::Result<()> {
+    let mut out = BufWriter::new(rt.alloc(), rt.stdout())?;
+    largest_numbers(&mut out)?;
     let cancelling = filled(-1_000_000_000, 1_000_000_000, -1_000_000_000);
     all_forms(
         &mut out,

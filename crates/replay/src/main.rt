@@ -10,8 +10,8 @@ use std::fs::Files;
 use std::io::{BufWriter, Write};
 use std::{fs, io};
 
-// The longest name of a file, and its end.
-const NAME: usize = 4096;
+// Room for the longest name of a file.
+const NAME_ROOM: usize = 4096;
 
 // The system's numbers for a name that is too long, and for one that is not there.
 const TOO_LONG: i32 = 36;
@@ -49,7 +49,7 @@ fn replay_named<H: Env + Files + Eprint + AllocGlobal, W: Write>(
     several: bool,
     out: &mut W,
 ) -> io::Result<()> {
-    let mut bytes = [0u8; NAME];
+    let mut bytes = [0u8; NAME_ROOM];
     let length = match rt.arg(i, &mut bytes) {
         Ok(length) => length,
         Err(why) => return say::unread(rt, "name of a file", reason(why)),

@@ -1,5 +1,5 @@
 // Reads standard input in pieces, and obeys every command that is there whole. What is left of a piece stands before the next one.
-ghost use Rattle.std.specs.Prelude.{◌≤◌, length, IfOk};
+ghost use Rattle.std.specs.Prelude.{◌≡◌, ◌≤◌, length, IfOk};
 
 use crate::say::{print_bad, print_unread};
 use crate::steps::steps;
@@ -22,7 +22,7 @@ fn move_to_front(buffer: &mut [u8], from: usize, end: usize)
 }
 
 // Where the bytes end after one read, behind those that wait: at the same place, if there is nothing more. A failed read is said, and is no
-// end of the input; at the end, bytes that wait are a command cut short.
+// end of the input; at the end, bytes that wait are a command cut short. An error is one of printing, and leaves the buffer's length.
 fn receive<R: Read, W: Write, E: Write>(
     input: &mut R,
     out: &mut W,
@@ -31,7 +31,8 @@ fn receive<R: Read, W: Write, E: Write>(
     held: usize,
 ) -> io::Result<usize>
     requires { held ≤ length buffer.old }
-    ensures { IfOk result (λ end. end ≤ length buffer.new) }
+    ensures end { IfOk result (λ end. end ≤ length buffer.new) }
+    ensures left { length buffer.new ≡ length buffer.old }
 {
     let Ok(got) = input.read(&mut buffer[held..]) else {
         print_unread(err)?;

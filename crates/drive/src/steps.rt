@@ -51,7 +51,7 @@ pub struct Left {
     pub used: usize,
 }
 
-// Every whole command of the text, up to a bad one.
+// Every whole command of the text, up to a bad one. An error is one of printing.
 pub fn steps<W: Write>(out: &mut W, s: Trial, text: &[u8]) -> io::Result<Left>
     ensures { IfOk result (λ left. left.used ≤ length text.now) }
 {

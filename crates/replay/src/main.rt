@@ -38,6 +38,7 @@ fn replay_file<H: Files + Eprint + AllocGlobal, W: Write>(
     };
     if several {
         say::title(out, name)?;
+        out.flush()?;
     }
     file::replay(rt, &mut file, name, out)
 }

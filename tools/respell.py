@@ -13,16 +13,22 @@ import sys
 
 HERE = os.path.dirname(os.path.abspath(__file__))
 TABLE = dict(line.rstrip("\n").split("\t") for line in open(os.path.join(HERE, "respell.tsv"), encoding="utf-8"))
-WORD = re.compile(r"\"(?:[^\"\\]|\\.)*\"|[^\s(){}.;,@\"«»\[\]\\λ|`']+")
+WORD = re.compile(r"\"(?:[^\"\\]|\\.)*\"|[^\s(){}.;,@\"«»\[\]\\λ|`']+'*")
 CAPITAL = re.compile(r"[a-z0-9][A-Z]")
 
 
+def name(word):
+    """The new name; of a name with primes behind it that the table lacks, by the name without them."""
+    bare = word.rstrip("'")
+    return TABLE.get(word) or TABLE.get(bare, bare) + word[len(bare):]
+
+
 def turned(text):
-    return WORD.sub(lambda m: TABLE.get(m.group(0), m.group(0)), text)
+    return WORD.sub(lambda m: name(m.group(0)), text)
 
 
 def turned_capitals(text):
-    return WORD.sub(lambda m: TABLE.get(m.group(0), m.group(0)) if CAPITAL.search(m.group(0)) else m.group(0), text)
+    return WORD.sub(lambda m: name(m.group(0)) if CAPITAL.search(m.group(0)) else m.group(0), text)
 
 
 def ticked(text):

@@ -26,15 +26,15 @@ use Rattle.settle.specs.Settling.{result_by, Gives, Seen, Settles}
 use Rattle.checker.specs.Feed.{stepped}
 use Rattle.checker.specs.Changes.{Changes}
 
-held-forms : {n : ℕ} {s : Session} {t : Tables} → Held n s t → FormsHeld n s.forms t.forms
-held-forms h = record { size = h.exact.sized.form-size; few = (held_clauses h).few-forms; contents = (held_clauses h).contents }
+held_forms : {n : ℕ} {s : Session} {t : Tables} → Held n s t → FormsHeld n s.forms t.forms
+held_forms h = record { size = h.exact.sized.form_size; few = (held_clauses h).few_forms; contents = (held_clauses h).contents }
 
-held-lines : {n : ℕ} {s : Session} {t : Tables} → Held n s t → LinesHeld s.lines t.pool t.lines
-held-lines {n} {s} {t} h =
+held_lines : {n : ℕ} {s : Session} {t : Tables} → Held n s t → LinesHeld s.lines t.pool t.lines
+held_lines {n} {s} {t} h =
     let c = held_clauses h in
     record {
-      size = h.exact.sized.line-size;
-      few = c.few-lines;
+      size = h.exact.sized.line_size;
+      few = c.few_lines;
       rise = c.rise;
       short = c.short;
       inside = λ i k. in_pool n s t h.exact h.ordered (suc i) k;
@@ -47,11 +47,11 @@ module _ (n : ℕ) (s : Session) (t : Tables) (b : List ℕ) where
   stepped_wrong e = rw e
 
   -- what bytes that bear a mark propose, settled
-  stepped-settled : {p : Proposal} {c : Change} {t' : Tables} (m : RecordMark) → OfMark b m
+  stepped_settled : {p : Proposal} {c : Change} {t' : Tables} (m : RecordMark) → OfMark b m
       → p ≡ proposed n (forms_in n s.forms t.forms) (lines_in s.lines t.pool t.lines) (fields b m)
       → Gives n s t (settles (ledger_of n s t) p) c t' → result_by s c t' ≡ stepped n s t b
   unfolding stepped apply_bytes decode ledger_of
-  stepped-settled m o e g =
+  stepped_settled m o e g =
       g.result
       ∙ ap (λ (x : Proposal). settled n s t (settles (ledger_of n s t) x)) e
       ∙ ap (settled n s t) (sym (in_two_steps n (ledger_of n s t) (fields b m)))
@@ -62,10 +62,10 @@ module _ {n : ℕ} {top : Top} {t : Tables} where
   pub seen_ready : {cells : List ℤ} {xs ys : List ℕ} → Seen n top t → length cells ≡ most_terms → Scratch xs ys
       → Ready n top.counts.forms top.counts.lines t.forms t.pool t.lines cells xs ys
   seen_ready v c x =
-      rw (← v.seen) (record { form-table = held-forms v.held; line-table = held-lines v.held; numbers = c; scratch = x })
+      rw (← v.seen) (record { in_form_table = held_forms v.held; in_line_table = held_lines v.held; numbers = c; scratch = x })
 
-  pub settled-changes : {p : Proposal} {c : Change} {t' : Tables} (b : List ℕ) (m : RecordMark) → OfMark b m
+  pub settled_changes : {p : Proposal} {c : Change} {t' : Tables} (b : List ℕ) (m : RecordMark) → OfMark b m
       → p ≡ proposed n (forms_in n top.counts.forms t.forms) (lines_in top.counts.lines t.pool t.lines) (fields b m)
       → Settles n top t p c t' → Changes n top t b c t'
-  settled-changes b m o e g s same h =
-      record { result = stepped-settled n s t b m o (rw (← same) at e) (g s same h); place = (g s same h).place }
+  settled_changes b m o e g s same h =
+      record { result = stepped_settled n s t b m o (rw (← same) at e) (g s same h); place = (g s same h).place }

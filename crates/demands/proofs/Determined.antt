@@ -94,26 +94,26 @@ failure (Verdicts.Fail r) = r
 abbrev refusal : ℕ → Refusal
 refusal k = failure (verdict k)
 
-refusal-known : (r : Refusal) → refusal (number_of r) ≡ r
-refusal-known r = ap failure (verdict_known (Verdicts.Fail r))
+refusal_known : (r : Refusal) → refusal (number_of r) ≡ r
+refusal_known r = ap failure (verdict_known (Verdicts.Fail r))
 
 abbrev made : ledger.Made → Made
 made (ledger.form f) = Mades.Form f
 made (ledger.line i) = Mades.Line i
 made (ledger.level k) = Mades.Level k
 
-made-known : (m : Made) → made (made_of m) ≡ m
-made-known (Mades.Form f) = refl
-made-known (Mades.Line i) = refl
-made-known (Mades.Level k) = refl
+made_known : (m : Made) → made (made_of m) ≡ m
+made_known (Mades.Form f) = refl
+made_known (Mades.Line i) = refl
+made_known (Mades.Level k) = refl
 
 abbrev answer : ledger.Answer → Answer
 answer (ledger.accepted m) = Answers.Accepted (made m)
 answer (ledger.refused k) = Answers.Refused (refusal k)
 
-answer-known : (a : Answer) → answer (answer_of a) ≡ a
-answer-known (Answers.Accepted m) = ap Answers.Accepted (made-known m)
-answer-known (Answers.Refused r) = ap Answers.Refused (refusal-known r)
+answer_known : (a : Answer) → answer (answer_of a) ≡ a
+answer_known (Answers.Accepted m) = ap Answers.Accepted (made_known m)
+answer_known (Answers.Refused r) = ap Answers.Refused (refusal_known r)
 
 abbrev beginning : Started → Start
 beginning started = Beginnings.Started
@@ -121,17 +121,17 @@ beginning (not_started k) = Beginnings.Refused (refusal k)
 
 beginning_known : (b : Start) → beginning (start_of b) ≡ b
 beginning_known Beginnings.Started = refl
-beginning_known (Beginnings.Refused r) = ap Beginnings.Refused (refusal-known r)
+beginning_known (Beginnings.Refused r) = ap Beginnings.Refused (refusal_known r)
 
 abbrev standing_by : Stands → Standing
 standing_by (stands (refuted i)) = Standings.Refuted i
 standing_by (stands not_refuted) = Standings.NotRefuted
 standing_by (no_standing k) = Standings.Refused (refusal k)
 
-standing-known : (r : Standing) → standing_by (stands_of r) ≡ r
-standing-known (Standings.Refuted i) = refl
-standing-known Standings.NotRefuted = refl
-standing-known (Standings.Refused r) = ap Standings.Refused (refusal-known r)
+standing_known : (r : Standing) → standing_by (stands_of r) ≡ r
+standing_known (Standings.Refuted i) = refl
+standing_known Standings.NotRefuted = refl
+standing_known (Standings.Refused r) = ap Standings.Refused (refusal_known r)
 
 abbrev next : pieces.Next → Next
 next (goes_on kept) = GoesOn kept
@@ -154,7 +154,7 @@ module _ (s : Session) (u : Tables) where
   pub feed_determined : (b : List ℕ) (r r' : Fed) (t t' : Tables) → Feeds s u b r t → Feeds s u b r' t' → (r ≡ r') × (t ≡ t')
   feed_determined b r r' t t' e e' =
       let same : result_of r t ≡ result_of r' t' = e ∙ sym e' in
-      let answers = apart answer_of answer answer-known (ap (λ (x : Result). x.answer) same) in
+      let answers = apart answer_of answer answer_known (ap (λ (x : Result). x.answer) same) in
       (λ i. record { session = (same i).session; answer = answers i }, ap (λ (x : Result). x.tables) same)
 
   -- the lent call, whose session is the one that it altered
@@ -173,7 +173,7 @@ module _ (s : Session) (u : Tables) where
       (λ i. record { session = (same i).session; records = (same i).records; bytes = (same i).bytes; stop = stops i }, ap (λ (x : Totals). x.tables) same)
 
   pub standing_determined : (r r' : Standing) → Tells s u r → Tells s u r' → r ≡ r'
-  standing_determined r r' e e' = apart stands_of standing_by standing-known (e ∙ sym e')
+  standing_determined r r' e e' = apart stands_of standing_by standing_known (e ∙ sym e')
 
 pub piece_determined : (p : Progress) (u : Tables) (buffer : List ℕ) (count : ℕ) (last : Bool) (r r' : Judged) (t t' : Tables) (x x' : List ℕ)
     → Judges p u buffer count last r t x
@@ -189,20 +189,20 @@ piece_determined p u buffer count last r r' t t' x x' e e' =
 
 -- ---- the exported calls
 
-left-same : {A : Type 0} (x : Left A) (r r' : A) (t t' : Tables) → left r t ≡ x → left r' t' ≡ x → (r ≡ r') × (t ≡ t')
-left-same {A} x r r' t t' e e' = (ap (λ (q : Left A). q.given) (e ∙ sym e'), ap (λ (q : Left A). q.tables) (e ∙ sym e'))
+left_same : {A : Type 0} (x : Left A) (r r' : A) (t t' : Tables) → left r t ≡ x → left r' t' ≡ x → (r ≡ r') × (t ≡ t')
+left_same {A} x r r' t t' e e' = (ap (λ (q : Left A). q.given) (e ∙ sym e'), ap (λ (q : Left A). q.tables) (e ∙ sym e'))
 
 pub exported_start_determined : (u : Tables) (r r' : PlainBegun) (t t' : Tables) → StartCrosses u r t → StartCrosses u r' t' → (r ≡ r') × (t ≡ t')
-exported_start_determined u r r' t t' = left-same _ r r' t t'
+exported_start_determined u r r' t t' = left_same _ r r' t t'
 
 module _ (s : PlainSession) (u : Tables) where
   pub exported_feed_determined : (b : List ℕ) (r r' : PlainFed) (t t' : Tables) → FeedCrosses s u b r t → FeedCrosses s u b r' t'
       → (r ≡ r') × (t ≡ t')
-  exported_feed_determined b r r' t t' = left-same _ r r' t t'
+  exported_feed_determined b r r' t t' = left_same _ r r' t t'
 
   pub exported_run_determined : (b : List ℕ) (r r' : PlainRan) (t t' : Tables) → RunCrosses s u b r t → RunCrosses s u b r' t'
       → (r ≡ r') × (t ≡ t')
-  exported_run_determined b r r' t t' = left-same _ r r' t t'
+  exported_run_determined b r r' t t' = left_same _ r r' t t'
 
   pub exported_standing_determined : (r r' : PlainStands) → StandingCrosses s u r → StandingCrosses s u r' → r ≡ r'
   exported_standing_determined r r' e e' = e ∙ sym e'

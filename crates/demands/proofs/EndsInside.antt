@@ -11,15 +11,15 @@ use Rattle.ledger.specs.Checks.{Passed}
 use Rattle.ledger.specs.Apply.{pass}
 use Rattle.ledger.specs.Bytes.{shape, apply_bytes}
 use Rattle.ledger.specs.Run.{AllAccepted}
-use Rattle.ledger.proofs.LegalLaws.{legal-apply_bytes}
+use Rattle.ledger.proofs.LegalLaws.{legal_apply_bytes}
 use Rattle.ledger.proofs.Splitting.{stops_inside}
 use Rattle.session.specs.declared.state.Session.{Session}
 use Rattle.session.specs.Cells.{Tables, named, excess, ledger_of, with_excess}
 use Rattle.session.specs.Calls.{entry}
 use Rattle.laid.specs.Result.{Result}
-use Rattle.laid.proofs.HeldLaws.{held-legal, held-session, held-tables}
+use Rattle.laid.proofs.HeldLaws.{held_legal, held_session, held_tables}
 use Rattle.checker.proofs.Beside.{restored}
-use Rattle.checker.proofs.Feeding.{entry-held}
+use Rattle.checker.proofs.Feeding.{entry_held}
 use Rattle.stream.specs.Run.{Totals, run}
 use Rattle.pieces.proofs.RunLaid.{totals_laid, feed_laid, run_laid}
 use Rattle.demands.specs.History.{State, state, EachAccepted, StopsInside}
@@ -29,29 +29,29 @@ use Rattle.demands.proofs.OnLedger.{laid, fed_laid}
 in_order_laid : (n : ℕ) (s : Session) (t : Tables) → length s.marks ≡ most_levels → entry n s t ≡ pass
     → (state s t ≡ laid n (excess n t) (ledger_of n s (named n t))) × Legal n (ledger_of n s (named n t))
 in_order_laid n s t marks e =
-    let h = entry-held n s t e marks in
-    (λ i. state (sym (held-session h) i) (((sym (restored n t)) ∙ ap (λ (u : Tables). with_excess u (excess n t)) (sym (held-tables h))) i), held-legal h)
+    let h = entry_held n s t e marks in
+    (λ i. state (sym (held_session h) i) (((sym (restored n t)) ∙ ap (λ (u : Tables). with_excess u (excess n t)) (sym (held_tables h))) i), held_legal h)
 
 -- accepted on cells is accepted on the ledger
-accepted-read : (n : ℕ) (x : Tables) (l : Ledger) → Legal n l → (bs : List (List ℕ)) → EachAccepted n (laid n x l) bs → AllAccepted n l bs
+accepted_read : (n : ℕ) (x : Tables) (l : Ledger) → Legal n l → (bs : List (List ℕ)) → EachAccepted n (laid n x l) bs → AllAccepted n l bs
 unfolding EachAccepted AllAccepted
-accepted-read n x l g [] a = tt
-accepted-read n x l g (b ∷ bs) (a, rest) =
+accepted_read n x l g [] a = tt
+accepted_read n x l g (b ∷ bs) (a, rest) =
     let same = feed_laid n x l g b in (
       subst (λ (r : Result). is_accepted r.answer) same a,
-      accepted-read n x (apply_bytes n l b).ledger (legal-apply_bytes n l b g) bs
+      accepted_read n x (apply_bytes n l b).ledger (legal_apply_bytes n l b g) bs
           (subst (λ (r : Result). EachAccepted n (state r.session r.tables) bs) same rest),
     )
 
 -- a session has eight marks, as the code's always does
-pub ends-inside-record : (n : ℕ) (s : Session) (t : Tables) → length s.marks ≡ most_levels → entry n s t ≡ pass
+pub ends_inside_record : (n : ℕ) (s : Session) (t : Tables) → length s.marks ≡ most_levels → entry n s t ≡ pass
     → (bs : List (List ℕ)) → EachAccepted n (state s t) bs → (b : List ℕ) → Passed (shape b) → (k : ℕ) → 0 < k → k < length b
     → StopsInside n (state s t) bs (run n s t (flatten bs ++ take k b))
-ends-inside-record n s t marks e bs a b p k some less =
+ends_inside_record n s t marks e bs a b p k some less =
     let (same, g) = in_order_laid n s t marks e in
     let l = ledger_of n s (named n t) in
     let x = excess n t in
-    let good = accepted-read n x l g bs (subst (λ (q : State). EachAccepted n q bs) same a) in
+    let good = accepted_read n x l g bs (subst (λ (q : State). EachAccepted n q bs) same a) in
     let ran = run_laid n x l g (flatten bs ++ take k b) ∙ ap (totals_laid n x) (stops_inside n l bs good b p k some less) in
     subst (λ (q : State). StopsInside n q bs (run n q.session q.tables (flatten bs ++ take k b))) (sym same)
     (record {

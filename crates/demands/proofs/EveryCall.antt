@@ -16,7 +16,7 @@ use Rattle.ledger.specs.Record.{form, line, level, Answer, accepted, refused}
 use Rattle.ledger.specs.Checks.{◌else◌}
 use Rattle.ledger.specs.Apply.{Finding, pass, fail, finding}
 use Rattle.ledger.specs.Split.{records_of}
-use Rattle.ledger.proofs.LegalLaws.{legal-fresh}
+use Rattle.ledger.proofs.LegalLaws.{legal_fresh}
 use Rattle.session.specs.declared.state.Session.{Session}
 use Rattle.session.specs.declared.answers.Refusal.{Refusal}
 use Rattle.session.specs.declared.answers.Answer as code
@@ -32,12 +32,12 @@ use Rattle.laid.specs.Held.{Held}
 use Rattle.laid.specs.Result.{Result}
 use Rattle.checker.specs.declared.keep.Fed.{Fed}
 use Rattle.checker.specs.Feed.{stepped, feed, Feeds}
-use Rattle.checker.proofs.Beside.{laid_held, named-beside, excess-beside, entry-beside, held_again}
-use Rattle.checker.proofs.Feeding.{entry-held}
-use Rattle.checker.proofs.FeedLaws.{refused-unchanged, ordered_again, excess-stays}
+use Rattle.checker.proofs.Beside.{laid_held, named_beside, excess_beside, entry_beside, held_again}
+use Rattle.checker.proofs.Feeding.{entry_held}
+use Rattle.checker.proofs.FeedLaws.{refused_unchanged, ordered_again, excess_stays}
 use Rattle.stream.specs.declared.Ran.{Ran}
 use Rattle.stream.specs.Run.{Totals, totals, each_by, run, stop_number, Runs}
-use Rattle.stream.proofs.Running.{beside_totals, run-refused, run-stepped}
+use Rattle.stream.proofs.Running.{beside_totals, run_refused, run_stepped}
 use Rattle.pieces.specs.declared.Progress.{Progress}
 use Rattle.pieces.specs.declared.Judged.{Judged}
 use Rattle.pieces.specs.Step.{Step, step, Judges}
@@ -58,15 +58,15 @@ told f k = record { unchanged = λ r. k.unchanged (f r); ordered = k.ordered; be
 -- ---- feed
 
 module _ (n : ℕ) (s : Session) (t : Tables) (b : List ℕ) (marks : length s.marks ≡ most_levels) where
-  feed-by : Keeps n ((k : ℕ) × ((feed n s t b).answer ≡ refused k)) s t (feed n s t b).session (feed n s t b).tables
-  feed-by =
+  feed_by : Keeps n ((k : ℕ) × ((feed n s t b).answer ≡ refused k)) s t (feed n s t b).session (feed n s t b).tables
+  feed_by =
       record {
         unchanged =
             λ r.
-            let e = refused-unchanged n s t b r.0 r.1 in
+            let e = refused_unchanged n s t b r.0 r.1 in
             (ap (λ (x : Result). x.session) e, ap (λ (x : Result). x.tables) e);
         ordered = ordered_again n s t b marks;
-        beyond = excess-stays n s t b marks;
+        beyond = excess_stays n s t b marks;
       }
 
 -- ---- run
@@ -98,19 +98,19 @@ each_counts call k c s t (b ∷ bs) =
     (λ j. omega arith)
 
 -- where none is counted, none was accepted
-none-accepted : (call : Session → Tables → List ℕ → Result) (c : ℕ) (s : Session) (t : Tables) (bs : List (List ℕ))
+none_accepted : (call : Session → Tables → List ℕ → Result) (c : ℕ) (s : Session) (t : Tables) (bs : List (List ℕ))
     → (each_by call 0 c s t bs).records ≡ 0 → ((each_by call 0 c s t bs).session ≡ s) × ((each_by call 0 c s t bs).tables ≡ t)
-none-accepted call c s t [] = λ e. unfold each_by in (refl, refl)
-none-accepted call c s t (b ∷ bs) =
+none_accepted call c s t [] = λ e. unfold each_by in (refl, refl)
+none_accepted call c s t (b ∷ bs) =
     on_or_stops call 0 c s t (λ r. r.records ≡ 0 → (r.session ≡ s) × (r.tables ≡ t)) b bs
     (λ e. absurd (omega (arith, each_counts call 1 (c + length b) (call s t b).session (call s t b).tables bs)))
     (λ j e. (refl, refl))
 
-each-held : {n : ℕ} (k c : ℕ) {s : Session} {t : Tables} → Held n s t → (bs : List (List ℕ)) →
+each_held : {n : ℕ} (k c : ℕ) {s : Session} {t : Tables} → Held n s t → (bs : List (List ℕ)) →
     let r = each_by (stepped n) k c s t bs in Held n r.session r.tables
-each-held k c h [] = unfold each_by in h
-each-held {n} k c {s} {t} h (b ∷ bs) =
-    on_or_stops (stepped n) k c s t (λ r. Held n r.session r.tables) b bs (each-held (k + 1) (c + length b) (held_again h b) bs) (λ j. h)
+each_held k c h [] = unfold each_by in h
+each_held {n} k c {s} {t} h (b ∷ bs) =
+    on_or_stops (stepped n) k c s t (λ r. Held n r.session r.tables) b bs (each_held (k + 1) (c + length b) (held_again h b) bs) (λ j. h)
 
 module _ (n : ℕ) (s : Session) (t : Tables) (b : List ℕ) (marks : length s.marks ≡ most_levels) where
   -- the run over the named cells
@@ -119,11 +119,11 @@ module _ (n : ℕ) (s : Session) (t : Tables) (b : List ℕ) (marks : length s.m
 
   inner_held : entry n s t ≡ pass → Held n inner.session inner.tables
   unfolding inner
-  inner_held e = each-held 0 0 (entry-held n s t e marks) (records_of b)
+  inner_held e = each_held 0 0 (entry_held n s t e marks) (records_of b)
 
   inner_beside : entry n s t ≡ pass → beside_totals (excess n t) inner ≡ run n s t b
   unfolding inner
-  inner_beside e = run-stepped n s t b e marks inner refl
+  inner_beside e = run_stepped n s t b e marks inner refl
 
   run_by : Keeps n ((run n s t b).records ≡ 0) s t (run n s t b).session (run n s t b).tables
   run_by =
@@ -131,7 +131,7 @@ module _ (n : ℕ) (s : Session) (t : Tables) (b : List ℕ) (marks : length s.m
         unchanged = none (entry n s t) refl;
         ordered =
             λ e.
-            subst (λ (r : Totals). entry n r.session r.tables ≡ pass) (inner_beside e) (entry-beside (inner_held e) (excess n t));
+            subst (λ (r : Totals). entry n r.session r.tables ≡ pass) (inner_beside e) (entry_beside (inner_held e) (excess n t));
         beyond = stays (entry n s t) refl;
       }
     where
@@ -139,14 +139,14 @@ module _ (n : ℕ) (s : Session) (t : Tables) (b : List ℕ) (marks : length s.m
       each e = unfold run in rw e
 
       none : (f : Finding) → entry n s t ≡ f → (run n s t b).records ≡ 0 → ((run n s t b).session ≡ s) × ((run n s t b).tables ≡ t)
-      none pass e h = rw (each e) (none-accepted (feed n) 0 s t (records_of b) (rw (each e) at h))
+      none pass e h = rw (each e) (none_accepted (feed n) 0 s t (records_of b) (rw (each e) at h))
       none (fail k) e h =
-          let same = sym (run-refused n s t b k e) in
+          let same = sym (run_refused n s t b k e) in
           (ap (λ (r : Totals). r.session) same, ap (λ (r : Totals). r.tables) same)
 
       stays : (f : Finding) → entry n s t ≡ f → excess n (run n s t b).tables ≡ excess n t
-      stays pass e = subst (λ (r : Totals). excess n r.tables ≡ excess n t) (inner_beside e) (excess-beside (inner_held e) (excess n t))
-      stays (fail k) e = ap (λ (r : Totals). excess n r.tables) (sym (run-refused n s t b k e))
+      stays pass e = subst (λ (r : Totals). excess n r.tables ≡ excess n t) (inner_beside e) (excess_beside (inner_held e) (excess n t))
+      stays (fail k) e = ap (λ (r : Totals). excess n r.tables) (sym (run_refused n s t b k e))
 
 -- ---- the calls on sessions by value, which have eight marks
 
@@ -155,7 +155,7 @@ module _ (s : Session) (t : Tables) (marks : length s.marks ≡ most_levels) whe
   pub feed_keeps : (b : List ℕ) (r : Fed) (t' : Tables) → Feeds s t b r t' → Keeps unknowns (RefusedBy r.answer) s t r.session t'
   feed_keeps b r t' meets =
       told (λ q. (number_of q.0, ap answer_of q.1))
-      (subst (λ (x : Result). Keeps unknowns ((k : ℕ) × (x.answer ≡ refused k)) s t x.session x.tables) (sym meets) (feed-by unknowns s t b marks))
+      (subst (λ (x : Result). Keeps unknowns ((k : ℕ) × (x.answer ≡ refused k)) s t x.session x.tables) (sym meets) (feed_by unknowns s t b marks))
 
   -- the lent call, whose session is the one that it altered
   pub lent_keeps : (b : List ℕ) (a : code.Answer) (s' : Session) (t' : Tables) → Feeds s t b (record { session = s'; answer = a }) t'
@@ -168,10 +168,10 @@ module _ (s : Session) (t : Tables) (marks : length s.marks ≡ most_levels) whe
       subst (λ (x : Totals). Keeps unknowns (x.records ≡ 0) s t x.session x.tables) (sym meets) (run_by unknowns s t b marks)
 
 -- it does so where 1 or 2 refuses it
-pub run-first : (s : Session) (t : Tables) (b : List ℕ) (r : Ran) (t' : Tables) → Runs s t b r t' → (k : ℕ) → entry unknowns s t ≡ fail k
+pub run_first : (s : Session) (t : Tables) (b : List ℕ) (r : Ran) (t' : Tables) → Runs s t b r t' → (k : ℕ) → entry unknowns s t ≡ fail k
     → (r.records ≡ 0) × (r.bytes ≡ 0) × (stop_number (finding_of r.stop) ≡ k)
-run-first s t b r t' meets k e =
-    let same = meets ∙ sym (run-refused unknowns s t b k e) in
+run_first s t b r t' meets k e =
+    let same = meets ∙ sym (run_refused unknowns s t b k e) in
     (ap (λ (x : Totals). x.records) same, ap (λ (x : Totals). x.bytes) same, ap (λ (x : Totals). x.stop) same)
 
 -- a piece, which is a run over what the buffer holds
@@ -187,36 +187,36 @@ piece_keeps p t buffer count last r t' x marks meets =
 -- ---- start
 
 module _ (n : ℕ) (t : Tables) where
-  held-fresh : Held n (session_of fresh) (tables_of n fresh)
-  held-fresh = laid_held n fresh (legal-fresh n)
+  held_fresh : Held n (session_of fresh) (tables_of n fresh)
+  held_fresh = laid_held n fresh (legal_fresh n)
 
   zero_laid : tables_of n fresh ≡ zero_tables n
   unfolding tables_of padded forms_laid pool_laid lines_laid
   zero_laid = rw sub-zero
 
   -- the number is that of the sizes, and not 0
-  short-number : (a b c : Bool) (k : ℕ) → finding ((a else 1) ∷ (b else 1) ∷ (c else 1) ∷ []) ≡ fail k → 0 < k
+  short_number : (a b c : Bool) (k : ℕ) → finding ((a else 1) ∷ (b else 1) ∷ (c else 1) ∷ []) ≡ fail k → 0 < k
   unfolding finding
-  short-number true true true k e = never (cc)
-  short-number true true false k e = let z : 1 ≡ k = cc in omega arith
-  short-number true false c k e = let z : 1 ≡ k = cc in omega arith
-  short-number false b c k e = let z : 1 ≡ k = cc in omega arith
+  short_number true true true k e = never (cc)
+  short_number true true false k e = let z : 1 ≡ k = cc in omega arith
+  short_number true false c k e = let z : 1 ≡ k = cc in omega arith
+  short_number false b c k e = let z : 1 ≡ k = cc in omega arith
 
-  refused-start : (k : ℕ) → (start n t).answer ≡ not_started k → (start n t).tables ≡ t
+  refused_start : (k : ℕ) → (start n t).answer ≡ not_started k → (start n t).tables ≡ t
   unfolding start
-  refused-start k e = by (finding (sizes n t)) e
+  refused_start k e = by (finding (sizes n t)) e
     where
       by : (f : Finding) → (begun_by f n t).answer ≡ not_started k → (begun_by f n t).tables ≡ t
       by pass e = never (cc)
       by (fail j) e = refl
 
-  start-by : Begins n ((k : ℕ) × ((start n t).answer ≡ not_started k)) ((start n t).answer ≡ started) t (start n t).session (start n t).tables
-  start-by =
+  start_by : Begins n ((k : ℕ) × ((start n t).answer ≡ not_started k)) ((start n t).answer ≡ started) t (start n t).session (start n t).tables
+  start_by =
       record {
         fresh = unfold start in first (finding (sizes n t));
-        unchanged = λ r. refused-start r.0 r.1;
+        unchanged = λ r. refused_start r.0 r.1;
         zeros = zeros;
-        ordered = λ e. subst (λ (q : State). entry n q.session q.tables ≡ pass) (sym (start_laid n t e)) (entry-beside held-fresh (excess n t));
+        ordered = λ e. subst (λ (q : State). entry n q.session q.tables ≡ pass) (sym (start_laid n t e)) (entry_beside held_fresh (excess n t));
         beyond = stays (finding (sizes n t)) refl;
       }
     where
@@ -226,17 +226,17 @@ module _ (n : ℕ) (t : Tables) where
 
       zeros : (start n t).answer ≡ started → named n (start n t).tables ≡ zero_tables n
       zeros e =
-          subst (λ (q : State). named n q.tables ≡ zero_tables n) (sym (start_laid n t e)) (named-beside held-fresh (excess n t) ∙ zero_laid)
+          subst (λ (q : State). named n q.tables ≡ zero_tables n) (sym (start_laid n t e)) (named_beside held_fresh (excess n t) ∙ zero_laid)
 
       stays : (f : Finding) → finding (sizes n t) ≡ f → excess n (start n t).tables ≡ excess n t
       stays pass e =
           let ok : (start n t).answer ≡ started = unfold start in rw e in
-          subst (λ (q : State). excess n q.tables ≡ excess n t) (sym (start_laid n t ok)) (excess-beside held-fresh (excess n t))
+          subst (λ (q : State). excess n q.tables ≡ excess n t) (sym (start_laid n t ok)) (excess_beside held_fresh (excess n t))
       stays (fail k) e = unfold start in rw e
 
-  start-number : (k : ℕ) → (start n t).answer ≡ not_started k → 0 < k
+  start_number : (k : ℕ) → (start n t).answer ≡ not_started k → 0 < k
   unfolding start sizes
-  start-number k e = short-number (leb (form_table n) (length t.forms)) (leb pool_table (length t.pool)) (leb line_table (length t.lines)) k (by (finding (sizes n t)) e)
+  start_number k e = short_number (leb (form_table n) (length t.forms)) (leb pool_table (length t.pool)) (leb line_table (length t.lines)) k (by (finding (sizes n t)) e)
     where
       by : (f : Finding) → (begun_by f n t).answer ≡ not_started k → f ≡ fail k
       by pass e = never (cc)
@@ -247,7 +247,7 @@ pub start_keeps : (t : Tables) (b : Begun) (t' : Tables) → Starts t b t'
 start_keeps t b t' meets =
     let k =
     subst (λ (x : Beginning). Begins unknowns ((k : ℕ) × (x.answer ≡ not_started k)) (x.answer ≡ started) t x.session x.tables) (sym meets)
-    (start-by unknowns t) in
+    (start_by unknowns t) in
     record {
       fresh = k.fresh;
       unchanged = λ r. k.unchanged (number_of r.0, ap start_of r.1);
@@ -276,7 +276,7 @@ module _ (s : PlainSession) (t : Tables) (marks : length s.marks ≡ most_levels
   exported_feed_keeps b r t' meets =
       let f = feed unknowns (session_in s) t b in
       subst (λ (x : Left PlainFed). Keeps unknowns (x.given.what ≡ 0) (session_in s) t (session_in x.given.session) x.tables) (sym meets)
-      (of f.answer f.session f.tables (feed-by unknowns (session_in s) t b (marks_in s marks)))
+      (of f.answer f.session f.tables (feed_by unknowns (session_in s) t b (marks_in s marks)))
     where
       of : (a : Answer) (s' : Session) (t' : Tables) → Keeps unknowns ((k : ℕ) × (a ≡ refused k)) (session_in s) t s' t'
           → Keeps unknowns ((fed_by a (session_out s')).what ≡ 0) (session_in s) t (session_in (fed_by a (session_out s')).session) t'
@@ -295,7 +295,7 @@ module _ (s : PlainSession) (t : Tables) (marks : length s.marks ≡ most_levels
 pub exported_run_first : (s : PlainSession) (t : Tables) (b : List ℕ) (r : PlainRan) (t' : Tables) → RunCrosses s t b r t'
     → (k : ℕ) → entry unknowns (session_in s) t ≡ fail k → (r.records ≡ 0) × (r.bytes ≡ 0) × (r.stop ≡ k)
 exported_run_first s t b r t' meets k e =
-    let same = meets ∙ sym (ap run_out (run-refused unknowns (session_in s) t b k e)) in (
+    let same = meets ∙ sym (ap run_out (run_refused unknowns (session_in s) t b k e)) in (
       ap (λ (x : Left PlainRan). x.given.records) same,
       ap (λ (x : Left PlainRan). x.given.bytes) same,
       ap (λ (x : Left PlainRan). x.given.stop) same,
@@ -307,7 +307,7 @@ pub exported_start_keeps : (t : Tables) (r : PlainBegun) (t' : Tables) → Start
 exported_start_keeps t r t' meets =
     let b = start unknowns t in
     subst (λ (x : Left PlainBegun). Begins unknowns ((k : ℕ) × (x.given.refusal ≡ suc k)) (x.given.refusal ≡ 0) t (session_in x.given.session) x.tables)
-    (sym meets) (of b.answer b.session b.tables (start-number unknowns t) (start-by unknowns t))
+    (sym meets) (of b.answer b.session b.tables (start_number unknowns t) (start_by unknowns t))
   where
     of : (a : Started) (s' : Session) (t' : Tables) → ((k : ℕ) → a ≡ not_started k → 0 < k)
         → Begins unknowns ((k : ℕ) × (a ≡ not_started k)) (a ≡ started) t s' t' →

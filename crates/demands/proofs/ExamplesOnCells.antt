@@ -25,27 +25,27 @@ use Rattle.ledger.specs.Run as ledger
 use Rattle.ledger.specs.Standing as stood
 use Rattle.ledger.specs.Examples.{Expected, refuses, makes_form, makes_line, opens, closes, Try, Example, after, replays}
 use Rattle.ledger.specs.Examples.{fed_from, ledger_by, hoped, refuted_line as empty_line, printed_of, meets, holds, examples, all_hold}
-use Rattle.ledger.proofs.LegalLaws.{legal-fresh, legal-apply_bytes, literals_append}
-use Rattle.ledger.proofs.ExampleLaws.{same_numbers, same_outcome_lem, fed-same, fed-accepted}
+use Rattle.ledger.proofs.LegalLaws.{legal_fresh, legal_apply_bytes, literals_append}
+use Rattle.ledger.proofs.ExampleLaws.{same_numbers, same_outcome_lem, fed_same, fed_accepted}
 use Rattle.session.specs.Cells.{Tables, tables, excess, with_excess}
 use Rattle.session.specs.Limits.{form_cells, form_table}
 use Rattle.session.specs.Effects.{written, with_form, with_line}
 use Rattle.session.specs.Calls.{entry, started, start, stands, standing}
 use Rattle.session.specs.Examples as Damaged
 use Rattle.laid.specs.Laid.{session_of, tables_of}
-use Rattle.laid.proofs.LaidParts.{legal-row, length-cells}
-use Rattle.laid.proofs.Writes.{form-table, pool-table, line-table, form-written, line-written, level-opened}
+use Rattle.laid.proofs.LaidParts.{legal_row, length_cells}
+use Rattle.laid.proofs.Writes.{in_form_table, in_pool_table, in_line_table, form_written_lem, line_written_lem, level_opened}
 use Rattle.checker.specs.Feed.{feed}
-use Rattle.checker.proofs.Beside.{laid_held, entry-beside}
+use Rattle.checker.proofs.Beside.{laid_held, entry_beside}
 use Rattle.stream.specs.Run.{run}
-use Rattle.pieces.proofs.RunLaid.{legal-fed, legal-run, result_laid, totals_laid, ledger-read, feed_laid, run_laid}
+use Rattle.pieces.proofs.RunLaid.{legal_fed, legal_run, result_laid, totals_laid, ledger_read, feed_laid, run_laid}
 use Rattle.demands.specs.History.{fed, State, begun, called_all, EachAccepted}
 use Rattle.demands.specs.Examples.{hoped_cells, AllMeet, refuted_line, printed, HoldsOnCells, AllHoldOnCells, Refuses, AllJudged}
 use Rattle.demands.proofs.OnLedger.{laid, start_laid, fed_laid, accepted_laid}
 
 -- what is written in front of an excess leaves the excess
-written-beside : {A : Type 0} (at : ℕ) (vs xs ys : List A) → at + length vs ≤ length xs → written at vs (xs ++ ys) ≡ written at vs xs ++ ys
-written-beside at vs xs ys h =
+written_beside : {A : Type 0} (at : ℕ) (vs xs ys : List A) → at + length vs ≤ length xs → written at vs (xs ++ ys) ≡ written at vs xs ++ ys
+written_beside at vs xs ys h =
     rw (take-append-le at xs ys (omega arith), drop-append-le (at + length vs) xs ys h)
     (sym (append_assoc (take at xs) (vs ++ drop (at + length vs) xs) ys ∙ ap (λ zs. take at xs ++ zs) (append_assoc vs (drop (at + length vs) xs) ys)))
 
@@ -61,11 +61,11 @@ module _ (t : Tables) (ok : (start unknowns t).answer ≡ started) where
   records_laid : (bs : List (List ℕ)) → called_all n (begun n t) (map fed bs) ≡ laid n x (ledger_by bs)
   records_laid bs =
       ap (λ (s : State). called_all n s (map fed bs)) (start_laid n t ok)
-      ∙ fed_laid n x fresh (legal-fresh n) bs
-      ∙ ap (laid n x) (sym (fed-same 0 fresh bs))
+      ∙ fed_laid n x fresh (legal_fresh n) bs
+      ∙ ap (laid n x) (sym (fed_same 0 fresh bs))
 
-  legal-records : (bs : List (List ℕ)) → Legal n (ledger_by bs)
-  legal-records bs = subst (Legal n) (sym (fed-same 0 fresh bs)) (legal-fed n fresh (legal-fresh n) bs)
+  legal_records : (bs : List (List ℕ)) → Legal n (ledger_by bs)
+  legal_records bs = subst (Legal n) (sym (fed_same 0 fresh bs)) (legal_fed n fresh (legal_fresh n) bs)
 
   -- ---- what is expected, laid out
 
@@ -76,16 +76,16 @@ module _ (t : Tables) (ok : (start unknowns t).answer ≡ started) where
     form_back (k ∷ []) h = absurd (omega (arith, h))
     form_back (k ∷ d ∷ r) h = refl
 
-    hoped-form : (k : ℕ) (cells : List ℤ) → Legal n (add l (new_form (form_of cells)))
+    hoped_form : (k : ℕ) (cells : List ℤ) → Legal n (add l (new_form (form_of cells)))
         → result_laid n x (accepted (form k)) (add l (new_form (form_of cells))) ≡ hoped_cells t (laid n x l) (makes_form k cells)
     unfolding add session_of
-    hoped-form k cells h =
+    hoped_form k cells h =
         let f = form_of cells in
         let room : length l.forms < most_forms = room_for h in
-        let whole = whole-form h in
-        let (s, u) = form-written n l g f room whole in
-        let table = form-table n l g in
-        let long = length-cells n f whole in
+        let whole = whole_form h in
+        let (s, u) = form_written_lem n l g f room whole in
+        let table = in_form_table n l g in
+        let long = length_cells n f whole in
         let back = form_back cells whole in
         let inside : 15 * (session_of l).forms + length (cells_of f) ≤ length (tables_of n l).forms = fits room long table in
         (λ i. record { answer = accepted (form k); session = s i; tables = with_excess (u i) x })
@@ -93,7 +93,7 @@ module _ (t : Tables) (ok : (start unknowns t).answer ≡ started) where
           answer = accepted (form k);
           session = with_form (session_of l);
           tables =
-              tables (sym (written-beside (15 * (session_of l).forms) (cells_of f) (tables_of n l).forms x.forms inside) i)
+              tables (sym (written_beside (15 * (session_of l).forms) (cells_of f) (tables_of n l).forms x.forms inside) i)
               ((tables_of n l).pool ++ x.pool) ((tables_of n l).lines ++ x.lines);
         })
         ∙ (λ i. record {
@@ -105,11 +105,11 @@ module _ (t : Tables) (ok : (start unknowns t).answer ≡ started) where
         })
       where
         room_for : Legal n (add l (new_form (form_of cells))) → length l.forms < most_forms
-        room_for h = omega (arith, h.few-forms, length-append l.forms (form_of cells ∷ []))
+        room_for h = omega (arith, h.few_forms, length-append l.forms (form_of cells ∷ []))
 
-        whole-form : Legal n (add l (new_form (form_of cells))) → length (form_of cells).row ≡ n + 1
-        whole-form h =
-            legal-row n (form_of cells)
+        whole_form : Legal n (add l (new_form (form_of cells))) → length (form_of cells).row ≡ n + 1
+        whole_form h =
+            legal_row n (form_of cells)
             (T_and (all (legal n) l.forms) (legal n (form_of cells)) (simp (all_append, and-true) at h.contents)).1
 
         fits : length l.forms < most_forms → length (cells_of (form_of cells)) ≡ form_cells n → length (tables_of n l).forms ≡ form_table n
@@ -119,14 +119,14 @@ module _ (t : Tables) (ok : (start unknowns t).answer ≡ started) where
     abbrev line_with : ℕ → List ℕ → Line
     line_with o xs = record { origin = o; literals = xs }
 
-    hoped-line : (k o : ℕ) (xs : List ℕ) → Legal n (add l (new_line (line_with o xs)))
+    hoped_line : (k o : ℕ) (xs : List ℕ) → Legal n (add l (new_line (line_with o xs)))
         → result_laid n x (accepted (line k)) (add l (new_line (line_with o xs))) ≡ hoped_cells t (laid n x l) (makes_line k o xs)
     unfolding add session_of
-    hoped-line k o xs h =
-        let lines : length l.lines < most_lines = omega (arith, h.few-lines, length-append l.lines (line_with o xs ∷ [])) in
+    hoped_line k o xs h =
+        let lines : length l.lines < most_lines = omega (arith, h.few_lines, length-append l.lines (line_with o xs ∷ [])) in
         let literals : literal_count l.lines + length xs ≤ most_literals =
-        omega (arith, h.few-literals, literals_append l.lines (line_with o xs ∷ [])) in
-        let (s, u) = line-written n l g (line_with o xs) lines literals in
+        omega (arith, h.few_literals, literals_append l.lines (line_with o xs ∷ [])) in
+        let (s, u) = line_written_lem n l g (line_with o xs) lines literals in
         let end = (session_of l).literals + length xs in
         (λ i. record { answer = accepted (line k); session = s i; tables = with_excess (u i) x })
         ∙ (λ i. record {
@@ -134,18 +134,18 @@ module _ (t : Tables) (ok : (start unknowns t).answer ≡ started) where
           session = with_line (session_of l) (length xs);
           tables =
               tables ((tables_of n l).forms ++ x.forms)
-              (sym (written-beside (session_of l).literals xs (tables_of n l).pool x.pool (omega (arith, literals, pool-table n l g))) i)
-              (sym (written-beside (2 * (session_of l).lines) (end ∷ o ∷ []) (tables_of n l).lines x.lines (omega (arith, lines, line-table n l g))) i);
+              (sym (written_beside (session_of l).literals xs (tables_of n l).pool x.pool (omega (arith, literals, in_pool_table n l g))) i)
+              (sym (written_beside (2 * (session_of l).lines) (end ∷ o ∷ []) (tables_of n l).lines x.lines (omega (arith, lines, in_line_table n l g))) i);
         })
 
     hoped_laid : (e : Expected) → Legal n (hoped l e).ledger
         → result_laid n x (hoped l e).answer (hoped l e).ledger ≡ hoped_cells t (laid n x l) e
     unfolding add opened
     hoped_laid (refuses k) h = refl
-    hoped_laid (makes_form k cells) h = hoped-form k cells h
-    hoped_laid (makes_line k o xs) h = hoped-line k o xs h
+    hoped_laid (makes_form k cells) h = hoped_form k cells h
+    hoped_laid (makes_line k o xs) h = hoped_line k o xs h
     hoped_laid (opens k) h =
-        let (s, u) = level-opened n l h.few-levels in
+        let (s, u) = level_opened n l h.few_levels in
         λ i. record { answer = (hoped l (opens k)).answer; session = s i; tables = with_excess (u i) x }
     hoped_laid (closes k bs) h = rw (records_laid bs)
 
@@ -156,10 +156,10 @@ module _ (t : Tables) (ok : (start unknowns t).answer ≡ started) where
   all_meet bs [] h = tt
   all_meet bs (y ∷ ys) h =
       let l = ledger_by bs in
-      let g = legal-records bs in
+      let g = legal_records bs in
       let (this, rest) = T_and (meets l y) (all (meets l) ys) h in
       let same = same_outcome_lem (apply_bytes n l y.bytes) (hoped l y.expected) this in
-      let legal : Legal n (hoped l y.expected).ledger = subst (λ (o : Outcome). Legal n o.ledger) same (legal-apply_bytes n l y.bytes g) in (
+      let legal : Legal n (hoped l y.expected).ledger = subst (λ (o : Outcome). Legal n o.ledger) same (legal_apply_bytes n l y.bytes g) in (
         feed_laid n x l g y.bytes
             ∙ ap (λ (o : Outcome). result_laid n x o.answer o.ledger) same
             ∙ hoped_laid l g y.expected legal,
@@ -169,7 +169,7 @@ module _ (t : Tables) (ok : (start unknowns t).answer ≡ started) where
   stood_laid : (l : Ledger) → Legal n l → standing n (session_of l) (with_excess (tables_of n l) x) ≡ stands (stood.standing l)
   unfolding standing
   stood_laid l g =
-      rw (entry-beside (laid_held n l g) x) (ap (λ (k : Ledger). stands (stood.standing k)) (ledger-read n x l g))
+      rw (entry_beside (laid_held n l g) x) (ap (λ (k : Ledger). stands (stood.standing k)) (ledger_read n x l g))
 
   printed_laid : (r : ledger.Run) → Legal n r.ledger → printed (totals_laid n x r) ≡ printed_of r
   unfolding session_of
@@ -186,24 +186,24 @@ module _ (t : Tables) (ok : (start unknowns t).answer ≡ started) where
           (r.records ∷ r.bytes ∷ length l.forms ∷ length l.lines ∷ literal_count l.lines ∷ length l.marks ∷ r.stop ∷ ys)
       front e = rw e
 
-  holds-on-cells : (e : Example) → T (holds e) → HoldsOnCells t e
+  holds_on_cells : (e : Example) → T (holds e) → HoldsOnCells t e
   unfolding holds
-  holds-on-cells (after bs ts) h =
+  holds_on_cells (after bs ts) h =
       let f = fed_from 0 fresh bs in
       let (count, tries) = T_and (eqb f.accepted (length bs)) (all (meets f.ledger) ts) h in
-      let good = fed-accepted 0 fresh bs (omega (arith, eqb→eq f.accepted (length bs) count)) in (
-        subst (λ (s : State). EachAccepted n s bs) (sym (start_laid n t ok)) (accepted_laid n x fresh (legal-fresh n) bs good),
+      let good = fed_accepted 0 fresh bs (omega (arith, eqb→eq f.accepted (length bs) count)) in (
+        subst (λ (s : State). EachAccepted n s bs) (sym (start_laid n t ok)) (accepted_laid n x fresh (legal_fresh n) bs good),
         rw (records_laid bs) (all_meet bs ts tries),
       )
-  holds-on-cells (replays file numbers) h =
+  holds_on_cells (replays file numbers) h =
       ap (λ (s : State). printed (run n s.session s.tables file)) (start_laid n t ok)
-      ∙ ap printed (run_laid n x fresh (legal-fresh n) file)
-      ∙ printed_laid (ledger.run n fresh file) (legal-run n fresh (legal-fresh n) file)
+      ∙ ap printed (run_laid n x fresh (legal_fresh n) file)
+      ∙ printed_laid (ledger.run n fresh file) (legal_run n fresh (legal_fresh n) file)
       ∙ same_numbers (printed_of (ledger.run n fresh file)) numbers h
 
   hold_on_cells : (es : List Example) → T (all holds es) → AllHoldOnCells t es
   hold_on_cells [] h = tt
-  hold_on_cells (e ∷ es) h = let (this, rest) = T_and (holds e) (all holds es) h in (holds-on-cells e this, hold_on_cells es rest)
+  hold_on_cells (e ∷ es) h = let (this, rest) = T_and (holds e) (all holds es) h in (holds_on_cells e this, hold_on_cells es rest)
 
   pub examples_hold : AllHoldOnCells t examples
   examples_hold = hold_on_cells examples all_hold
@@ -221,9 +221,9 @@ judged e h = by (entry unknowns e.session e.tables) refl h
         let number = eqb→eq e.number k h in
         inr (λ b. (rw (same, number), rw (same, number), rw (same, number)))
 
-all-judged : (es : List Damaged.Example) → T (all Damaged.holds es) → AllJudged es
-all-judged [] h = tt
-all-judged (e ∷ es) h = let (this, rest) = T_and (Damaged.holds e) (all Damaged.holds es) h in (judged e this, all-judged es rest)
+all_judged : (es : List Damaged.Example) → T (all Damaged.holds es) → AllJudged es
+all_judged [] h = tt
+all_judged (e ∷ es) h = let (this, rest) = T_and (Damaged.holds e) (all Damaged.holds es) h in (judged e this, all_judged es rest)
 
 pub damaged_refused : AllJudged Damaged.examples
-damaged_refused = all-judged Damaged.examples Damaged.all_hold
+damaged_refused = all_judged Damaged.examples Damaged.all_hold

@@ -19,11 +19,11 @@ use Rattle.ledger.specs.Bytes.{shape, decode, apply_bytes}
 use Rattle.ledger.specs.Numbers.{shape_order, record_order, follow, Given}
 use Rattle.ledger.specs.Split.{records_of}
 use Rattle.ledger.proofs.Findings.{pass→passed, passed→pass, pass_append, fail_append}
-use Rattle.ledger.proofs.Numbers.{follow_append, number_in, holds-all, given_exactly, byte_tests, bytes-follow, bytes_found}
+use Rattle.ledger.proofs.Numbers.{follow_append, number_in, holds_all, given_exactly, byte_tests, bytes_follow, bytes_found}
 use Rattle.session.specs.declared.state.Session.{Session}
 use Rattle.session.specs.Cells.{Tables, named, ledger_of}
 use Rattle.session.specs.InOrder.{sizes}
-use Rattle.session.proofs.Numbers.{sizes-follow, entry_tests, entry-follow}
+use Rattle.session.proofs.Numbers.{sizes_follow, entry_tests, entry_follow}
 use Rattle.session.specs.Calls.{not_started, begun_by, start, no_standing, stands_by, standing}
 use Rattle.laid.specs.Result.{settled}
 use Rattle.checker.specs.Feed.{stepped, fed_by, feed}
@@ -42,12 +42,12 @@ module _ (n : ℕ) where
       in_two = append_assoc (entry_tests n s t) (shape b) (checks n held (decode b))
 
       pub feed_follows : T (follow number_order (feed_tests n s t b))
-      feed_follows = rw in_two (follow_append (1 ∷ 2 ∷ []) (shape_order ++ record_order) (entry_tests n s t) (byte_tests n held b) (entry-follow n s t) (bytes-follow n held b))
+      feed_follows = rw in_two (follow_append (1 ∷ 2 ∷ []) (shape_order ++ record_order) (entry_tests n s t) (byte_tests n held b) (entry_follow n s t) (bytes_follow n held b))
 
       -- ---- feed
 
-      settled-answer : (o : Outcome) → (settled n s (named n t) o).answer ≡ o.answer
-      settled-answer o = go o.answer refl
+      settled_answer : (o : Outcome) → (settled n s (named n t) o).answer ≡ o.answer
+      settled_answer o = go o.answer refl
         where
           go : (a : Answer) → o.answer ≡ a → (settled n s (named n t) o).answer ≡ o.answer
           go (accepted m) e = rw e
@@ -58,11 +58,11 @@ module _ (n : ℕ) where
       feed_found k = rw in_two (by (finding (entry_tests n s t)) refl)
         where
           by : (f : Finding) → finding (entry_tests n s t) ≡ f → ((fed_by f n s t b).answer ≡ refused k ↔ finding (entry_tests n s t ++ byte_tests n held b) ≡ fail k)
-          by pass e = rw (settled-answer (apply_bytes n held b), pass_append (entry_tests n s t) (byte_tests n held b) e) (bytes_found n held b k)
+          by pass e = rw (settled_answer (apply_bytes n held b), pass_append (entry_tests n s t) (byte_tests n held b) e) (bytes_found n held b k)
           by (fail j) e = rw (fail_append (entry_tests n s t) (byte_tests n held b) j e) (λ f. cc, λ f. cc)
 
-      pub feed-given : (k : ℕ) → (feed n s t b).answer ≡ refused k ↔ Given k (feed_tests n s t b)
-      feed-given k = Iff.trans (feed_found k) (given_exactly k (feed_tests n s t b))
+      pub feed_given : (k : ℕ) → (feed n s t b).answer ≡ refused k ↔ Given k (feed_tests n s t b)
+      feed_given k = Iff.trans (feed_found k) (given_exactly k (feed_tests n s t b))
 
       pub feed_accepts : is_accepted (feed n s t b).answer ↔ Passed (feed_tests n s t b)
       feed_accepts = (to (finding cs) refl, from (feed n s t b).answer refl)
@@ -78,58 +78,58 @@ module _ (n : ℕ) where
           from (accepted m) e p = rw e tt
           from (refused k) e p = let f = (feed_found k).0 e in let g = passed→pass cs p in never (cc)
 
-      pub feed-number : (k : ℕ) → (feed n s t b).answer ≡ refused k → (1 ≤ k) × (k ≤ 13)
-      feed-number k e =
+      pub feed_number : (k : ℕ) → (feed n s t b).answer ≡ refused k → (1 ≤ k) × (k ≤ 13)
+      feed_number k e =
           let (low, high) =
           T_and (leb 1 k) (leb k 13)
-          (holds-all (λ j. leb 1 j && leb j 13) number_order k tt (number_in number_order (feed_tests n s t b) feed_follows ((feed_found k).0 e))) in
+          (holds_all (λ j. leb 1 j && leb j 13) number_order k tt (number_in number_order (feed_tests n s t b) feed_follows ((feed_found k).0 e))) in
           (leb→le 1 k low, leb→le k 13 high)
 
     -- ---- standing
 
-    entry-number : (k : ℕ) → finding (entry_tests n s t) ≡ fail k → (k ≡ 1) ⊎ (k ≡ 2)
-    entry-number k e = elim (T-or (eqb k 1) (holds k (2 ∷ [])) (number_in (1 ∷ 2 ∷ []) (entry_tests n s t) (entry-follow n s t) e)) [
+    entry_number : (k : ℕ) → finding (entry_tests n s t) ≡ fail k → (k ≡ 1) ⊎ (k ≡ 2)
+    entry_number k e = elim (T-or (eqb k 1) (holds k (2 ∷ [])) (number_in (1 ∷ 2 ∷ []) (entry_tests n s t) (entry_follow n s t) e)) [
       | inl h ↦ inl (eqb→eq k 1 h)
       | inr h ↦ elim (T-or (eqb k 2) false h) [ inl i ↦ inr (eqb→eq k 2 i) | inr i ↦ absurd i ]
     ]
 
-    pub standing-number : (k : ℕ) → standing n s t ≡ no_standing k → (k ≡ 1) ⊎ (k ≡ 2)
+    pub standing_number : (k : ℕ) → standing n s t ≡ no_standing k → (k ≡ 1) ⊎ (k ≡ 2)
     unfolding standing
-    standing-number k e = by (finding (entry_tests n s t)) refl e
+    standing_number k e = by (finding (entry_tests n s t)) refl e
       where
         by : (f : Finding) → finding (entry_tests n s t) ≡ f → stands_by f n s t ≡ no_standing k → (k ≡ 1) ⊎ (k ≡ 2)
         by pass g e = never (cc)
-        by (fail j) g e = entry-number k (cc)
+        by (fail j) g e = entry_number k (cc)
 
   -- ---- start
 
-  pub start-number : (t : Tables) (k : ℕ) → (start n t).answer ≡ not_started k → k ≡ 1
+  pub start_number : (t : Tables) (k : ℕ) → (start n t).answer ≡ not_started k → k ≡ 1
   unfolding start
-  start-number t k e = by (finding (sizes n t)) refl e
+  start_number t k e = by (finding (sizes n t)) refl e
     where
       by : (f : Finding) → finding (sizes n t) ≡ f → (begun_by f n t).answer ≡ not_started k → k ≡ 1
       by pass g e = never (cc)
       by (fail j) g e =
           let f : finding (sizes n t) ≡ fail k = cc in
-          elim (T-or (eqb k 1) false (number_in (1 ∷ []) (sizes n t) (sizes-follow n t) f)) [ inl h ↦ eqb→eq k 1 h | inr h ↦ absurd h ]
+          elim (T-or (eqb k 1) false (number_in (1 ∷ []) (sizes n t) (sizes_follow n t) f)) [ inl h ↦ eqb→eq k 1 h | inr h ↦ absurd h ]
 
   -- ---- run
 
-  each-stop : (records bytes : ℕ) (s : Session) (t : Tables) (bs : List (List ℕ)) → (each_by (feed n) records bytes s t bs).stop ≤ 13
+  each_stop : (records bytes : ℕ) (s : Session) (t : Tables) (bs : List (List ℕ)) → (each_by (feed n) records bytes s t bs).stop ≤ 13
   unfolding each_by
-  each-stop records bytes s t [] = omega arith
-  each-stop records bytes s t (b ∷ bs) =
-      go (feed n s t b).answer refl (each-stop (records + 1) (bytes + length b) (feed n s t b).session (feed n s t b).tables bs)
+  each_stop records bytes s t [] = omega arith
+  each_stop records bytes s t (b ∷ bs) =
+      go (feed n s t b).answer refl (each_stop (records + 1) (bytes + length b) (feed n s t b).session (feed n s t b).tables bs)
     where
       go : (a : Answer) → (feed n s t b).answer ≡ a → (each_by (feed n) (records + 1) (bytes + length b) (feed n s t b).session (feed n s t b).tables bs).stop ≤ 13
           → (each_by (feed n) records bytes s t (b ∷ bs)).stop ≤ 13
       go (accepted m) e rest = rw (e, each_by) rest
-      go (refused k) e rest = rw (e, each_by) (feed-number s t b k e).1
+      go (refused k) e rest = rw (e, each_by) (feed_number s t b k e).1
 
-  pub run-number : (s : Session) (t : Tables) (b : List ℕ) → (run n s t b).stop ≤ 13
+  pub run_number : (s : Session) (t : Tables) (b : List ℕ) → (run n s t b).stop ≤ 13
   unfolding run
-  run-number s t b = by (finding (entry_tests n s t)) refl
+  run_number s t b = by (finding (entry_tests n s t)) refl
     where
       by : (f : Finding) → finding (entry_tests n s t) ≡ f → (run_by f n s t b).stop ≤ 13
-      by pass e = each-stop 0 0 s t (records_of b)
-      by (fail k) e = elim (entry-number s t k e) [ inl h ↦ omega arith | inr h ↦ omega arith ]
+      by pass e = each_stop 0 0 s t (records_of b)
+      by (fail k) e = elim (entry_number s t k e) [ inl h ↦ omega arith | inr h ↦ omega arith ]

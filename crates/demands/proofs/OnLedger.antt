@@ -9,13 +9,13 @@ use Rattle.ledger.specs.Legal.{Legal}
 use Rattle.ledger.specs.Apply.{Finding, pass, fail, finding}
 use Rattle.ledger.specs.Bytes.{apply_bytes}
 use Rattle.ledger.specs.Run.{fed_all, AllAccepted}
-use Rattle.ledger.proofs.LegalLaws.{legal-apply_bytes}
+use Rattle.ledger.proofs.LegalLaws.{legal_apply_bytes}
 use Rattle.ledger.proofs.RunLaws.{run_stops_at_first_bad}
 use Rattle.session.specs.Cells.{Tables, excess, with_excess}
 use Rattle.session.specs.InOrder.{sizes}
 use Rattle.session.specs.Calls.{started, begun_by, start}
 use Rattle.laid.specs.Laid.{padded, forms_laid, pool_laid, lines_laid, tables_of, marks_laid, session_of}
-use Rattle.pieces.proofs.RunLaid.{legal-fed, feed_laid, run_laid}
+use Rattle.pieces.proofs.RunLaid.{legal_fed, feed_laid, run_laid}
 use Rattle.demands.specs.History.{Call, fed, ran, State, state, begun, called, called_all, records_by, records_fed, EachAccepted}
 
 -- with this excess
@@ -54,7 +54,7 @@ module _ (n : ℕ) (x : Tables) where
   all_laid l g [] = refl
   all_laid l g (c ∷ cs) =
       let bs = records_by n (laid n x l) c in
-      rw (called_laid l g c, fed_both n l bs) (all_laid (fed_all n l bs) (legal-fed n l g bs) cs)
+      rw (called_laid l g c, fed_both n l bs) (all_laid (fed_all n l bs) (legal_fed n l g bs) cs)
 
   -- ---- records fed one after the other
 
@@ -62,9 +62,9 @@ module _ (n : ℕ) (x : Tables) where
   unfolding called_all fed_all
   fed_laid l g [] = refl
   fed_laid l g (b ∷ bs) =
-      ap (λ (s : State). called_all n s (map fed bs)) (called_laid l g (fed b)) ∙ fed_laid (apply_bytes n l b).ledger (legal-apply_bytes n l b g) bs
+      ap (λ (s : State). called_all n s (map fed bs)) (called_laid l g (fed b)) ∙ fed_laid (apply_bytes n l b).ledger (legal_apply_bytes n l b g) bs
 
   pub accepted_laid : (l : Ledger) → Legal n l → (bs : List (List ℕ)) → AllAccepted n l bs → EachAccepted n (laid n x l) bs
   unfolding AllAccepted EachAccepted
   accepted_laid l g [] a = tt
-  accepted_laid l g (b ∷ bs) a = rw (feed_laid n x l g b) (a.0, accepted_laid (apply_bytes n l b).ledger (legal-apply_bytes n l b g) bs a.1)
+  accepted_laid l g (b ∷ bs) a = rw (feed_laid n x l g b) (a.0, accepted_laid (apply_bytes n l b).ledger (legal_apply_bytes n l b g) bs a.1)

@@ -13,7 +13,7 @@ use Rattle.ledger.specs.History.{after_bytes, op_count, NoWD}
 use Rattle.ledger.specs.Carried.{forms_carried, lists_carried, satisfied}
 use Rattle.ledger.proofs.InForce.{bytes_in_force_lem}
 use Rattle.ledger.proofs.StruckOut.{in_force_remains, in_force_only, in_force_no_wd, open_levels}
-use Rattle.ledger.proofs.Carried.{forms-carried, premises_carried, premises_satisfied}
+use Rattle.ledger.proofs.Carried.{forms_carried_lem, premises_carried, premises_satisfied}
 use Rattle.session.specs.Cells.{Tables}
 use Rattle.session.specs.Calls.{started, start, stands, standing}
 use Rattle.laid.specs.Laid.{session_of}
@@ -35,21 +35,21 @@ module _ (n : ℕ) (t : Tables) (calls : List Call) where
 -- ---- and of these, over n unknowns, after any calls since a start that was accepted
 
 module _ (n : ℕ) (t : Tables) (ok : (start n t).answer ≡ started) (calls : List Call) where
-  read-after : read n (now n t calls) ≡ after_bytes n (history n t calls)
-  read-after = read_in_force n t ok calls ∙ (bytes_in_force_lem n (history n t calls)).0
+  read_after : read n (now n t calls) ≡ after_bytes n (history n t calls)
+  read_after = read_in_force n t ok calls ∙ (bytes_in_force_lem n (history n t calls)).0
 
   module _ (bs : List (List ℕ)) (in_force : StillInForce n t calls bs) where
     -- session and cells are those of a start and these records fed one after the other, each of which is accepted
-    pub withdrawal-exact : (called_all n (begun n t) calls ≡ called_all n (begun n t) (map fed bs)) × EachAccepted n (begun n t) bs
-    withdrawal-exact = rw (only_in_force n t calls bs in_force) (exact n t ok calls)
+    pub withdrawal_exact : (called_all n (begun n t) calls ≡ called_all n (begun n t) (map fed bs)) × EachAccepted n (begun n t) bs
+    withdrawal_exact = rw (only_in_force n t calls bs in_force) (exact n t ok calls)
 
     pub forms_of_records : (read n (now n t calls)).forms ≡ forms_carried bs
     forms_of_records =
-        rw (only_in_force n t calls bs in_force) (ap (λ (l : Ledger). l.forms) read-after ∙ forms-carried n (history n t calls))
+        rw (only_in_force n t calls bs in_force) (ap (λ (l : Ledger). l.forms) read_after ∙ forms_carried_lem n (history n t calls))
 
     pub premises_of_records : premise_lists (read n (now n t calls)).lines ≡ lists_carried bs
     premises_of_records =
-        rw (only_in_force n t calls bs in_force) (ap (λ (l : Ledger). premise_lists l.lines) read-after ∙ premises_carried n (history n t calls))
+        rw (only_in_force n t calls bs in_force) (ap (λ (l : Ledger). premise_lists l.lines) read_after ∙ premises_carried n (history n t calls))
 
     pub refuted_means_none : (i : ℕ) → standing n (now n t calls).session (now n t calls).tables ≡ stands (refuted i)
         → (ρ : Integers) → T (satisfied ρ (forms_carried bs) (lists_carried bs)) → ⊥

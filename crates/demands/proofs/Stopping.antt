@@ -13,7 +13,7 @@ use Rattle.session.specs.Cells.{Tables}
 use Rattle.session.specs.Calls.{entry}
 use Rattle.laid.specs.Result.{Result}
 use Rattle.checker.specs.Feed.{feed}
-use Rattle.checker.proofs.FeedLaws.{refused-unchanged}
+use Rattle.checker.proofs.FeedLaws.{refused_unchanged}
 use Rattle.stream.specs.Run.{Totals, totals, each_by, run_by, run}
 use Rattle.stream.proofs.Running.{each_on, each_stops}
 use Rattle.demands.specs.History.{state, called_all, EachAccepted, Stops, Leaves}
@@ -63,13 +63,13 @@ module _ (n : ℕ) where
       )
       go (refused j) e rest = (
         totals 0 0 j s t,
-        rw (each_stops (feed n) k c s t b bs (refused-unchanged n s t b j e))
+        rw (each_stops (feed n) k c s t b bs (refused_unchanged n s t b j e))
             (record { records = omega arith; bytes = omega arith; stop = refl; session = refl; tables = refl }),
         record { good = tt; leaves = refl; bytes = refl; end = inr (omega arith, e) },
       )
 
-same-run : (q r : Totals) → Counted 0 0 q r → q ≡ r
-same-run q r h = λ i. totals (e i) (f i) (sym h.stop i) (sym h.session i) (sym h.tables i)
+same_run : (q r : Totals) → Counted 0 0 q r → q ≡ r
+same_run q r h = λ i. totals (e i) (f i) (sym h.stop i) (sym h.session i) (sym h.tables i)
   where
     e : q.records ≡ r.records
     e = omega (arith, h.records)
@@ -80,7 +80,7 @@ same-run q r h = λ i. totals (e i) (f i) (sym h.stop i) (sym h.session i) (sym 
 each_stops_first : (n : ℕ) (s : Session) (t : Tables) (bs : List (List ℕ)) → Stops n (state s t) bs (each_by (feed n) 0 0 s t bs)
 unfolding StopsFrom
 each_stops_first n s t bs =
-    let (q, counted, stops) = stops_from n 0 0 s t bs in subst (Stops n (state s t) bs) (same-run q (each_by (feed n) 0 0 s t bs) counted) stops
+    let (q, counted, stops) = stops_from n 0 0 s t bs in subst (Stops n (state s t) bs) (same_run q (each_by (feed n) 0 0 s t bs) counted) stops
 
 module _ (n : ℕ) (s : Session) (t : Tables) (b : List ℕ) where
   -- a run that is not refused 1 or 2
@@ -88,9 +88,9 @@ module _ (n : ℕ) (s : Session) (t : Tables) (b : List ℕ) where
   unfolding run
   run_stops_at_first_bad e = rw e (each_stops_first n s t (records_of b))
 
-  pub run-leaves : Leaves n (state s t) (records_of b) (run n s t b)
+  pub run_leaves : Leaves n (state s t) (records_of b) (run n s t b)
   unfolding run called_all flatten
-  run-leaves = by (entry n s t)
+  run_leaves = by (entry n s t)
     where
       by : (f : Finding) → Leaves n (state s t) (records_of b) (run_by f n s t b)
       by pass =

@@ -11,7 +11,7 @@ use Rattle.ledger.specs.Ledger.{fresh}
 use Rattle.ledger.specs.Record.{Answer, level, accepted, refused, is_accepted}
 use Rattle.ledger.specs.Bytes.{apply_bytes}
 use Rattle.ledger.specs.Split.{split, records_of}
-use Rattle.ledger.proofs.LegalLaws.{legal-fresh}
+use Rattle.ledger.proofs.LegalLaws.{legal_fresh}
 use Rattle.session.specs.declared.state.Session.{Session}
 use Rattle.session.specs.Cells.{Tables, tables, with_excess}
 use Rattle.laid.specs.Laid.{session_of, tables_of}
@@ -19,7 +19,7 @@ use Rattle.laid.specs.Result.{Result, unchanged}
 use Rattle.checker.specs.Feed.{feed}
 use Rattle.stream.specs.Run.{Totals, totals, run}
 use Rattle.demands.specs.Useless.{FeedChecker, RunChecker, MeetsFeed, MeetsRun, RefusesEverything, HasConstantAnswer, WritesNothing, waving, WavesTheRest, InventsTotals}
-use Rattle.demands.proofs.Stopping.{run-leaves}
+use Rattle.demands.proofs.Stopping.{run_leaves}
 use Rattle.pieces.proofs.RunLaid.{result_laid, feed_laid}
 
 -- ---- records in bytes
@@ -57,7 +57,7 @@ module _ (n : ℕ) where
 
   module _ (f : FeedChecker) (meets : MeetsFeed n f) where
     fed : (b : List ℕ) → f s t b ≡ result_laid n no_excess (apply_bytes n fresh b).answer (apply_bytes n fresh b).ledger
-    fed b = meets s t b ∙ feed_laid n no_excess fresh (legal-fresh n) b
+    fed b = meets s t b ∙ feed_laid n no_excess fresh (legal_fresh n) b
 
     pub refusing_breaks : RefusesEverything f → ⊥
     unfolding apply_bytes
@@ -82,7 +82,7 @@ module _ (n : ℕ) where
   module _ (f : RunChecker) (meets : MeetsRun n f) where
     pub inventing_breaks : InventsTotals n f → ⊥
     inventing_breaks (u, v, b, invents) =
-        let l = run-leaves n u v b in
+        let l = run_leaves n u v b in
         invents (run n u v b).records l.some (rw (meets u v b) l.leaves) (ap (λ (r : Totals). r.records) (meets u v b)) (rw (meets u v b) l.bytes)
 
   -- ---- a member of each class

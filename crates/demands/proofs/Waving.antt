@@ -57,9 +57,9 @@ four_waved : r.records ≡ 4
 unfolding waving stream split feed stepped apply_bytes fm_bytes fk_bytes pm_bytes flat_map session_of tables_of padded forms_laid pool_laid lines_laid marks_laid up_to down_from start sizes order legal all_below not_above
 four_waved = refl
 
-refuted-by-waving : standing unknowns r.session r.tables ≡ stands (refuted 2)
+refuted_by_waving : standing unknowns r.session r.tables ≡ stands (refuted 2)
 unfolding waving standing standing_from stream split feed stepped apply_bytes fm_bytes fk_bytes pm_bytes flat_map session_of tables_of padded forms_laid pool_laid lines_laid marks_laid up_to down_from start sizes order legal all_below not_above
-refuted-by-waving = refl
+refuted_by_waving = refl
 
 -- the run stops at the second record
 stops : (run unknowns s t stream).stop ≡ 11
@@ -70,9 +70,9 @@ stops = refl
 abbrev ZerosSatisfy : ℕ → Type 0
 ZerosSatisfy k = let bs = take k (records_of stream) in T (satisfied (λ i. pos 0) (forms_carried bs) (lists_carried bs))
 
-zeros-satisfy : ZerosSatisfy 4
+zeros_satisfy : ZerosSatisfy 4
 unfolding stream split fm_bytes fk_bytes pm_bytes flat_map forms_carried lists_carried up_to literal_true form_true
-zeros-satisfy = tt
+zeros_satisfy = tt
 
 module _ (f : RunChecker) (waves : WavesTheRest unknowns f) where
   pub waving_breaks : MeetsRun unknowns f → ⊥
@@ -90,7 +90,7 @@ module _ (f : RunChecker) (waves : WavesTheRest unknowns f) where
         begins = refl;
         stream = stream;
         line = 2;
-        refutes = subst (λ (q : Totals). standing unknowns q.session q.tables ≡ stands (refuted 2)) same refuted-by-waving;
+        refutes = subst (λ (q : Totals). standing unknowns q.session q.tables ≡ stands (refuted 2)) same refuted_by_waving;
         numbers = λ i. pos 0;
-        satisfy = subst (λ (q : Totals). ZerosSatisfy q.records) same (subst ZerosSatisfy (sym four_waved) zeros-satisfy);
+        satisfy = subst (λ (q : Totals). ZerosSatisfy q.records) same (subst ZerosSatisfy (sym four_waved) zeros_satisfy);
       }

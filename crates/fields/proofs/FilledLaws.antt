@@ -8,7 +8,7 @@ use lib.IntN.{ℤ}
 use lib.ListN.{length, take, set, length-set}
 use lib.Seq.{take_all, take-suc-set}
 use Rattle.ints.specs.Tests.{up_to}
-use Rattle.ints.proofs.Lists.{length-up_to}
+use Rattle.ints.proofs.Lists.{length_up_to}
 use Rattle.rows.specs.Summable.{terms}
 use Rattle.rows.proofs.TermLaws.{term}
 
@@ -43,11 +43,11 @@ terms_append [] (k ∷ ms) f m e = absurd (omega arith)
 terms_append (g ∷ fs) [] f m e = absurd (omega arith)
 terms_append (g ∷ fs) (k ∷ ms) f m e = rw (terms_append fs ms f m (omega arith))
 
-terms-up_to : (n : ℕ) (f : ℕ → ℕ) (g : ℕ → ℤ) → terms (up_to n f) (up_to n g) ≡ up_to n (λ i. term (f i) (g i))
+terms_up_to : (n : ℕ) (f : ℕ → ℕ) (g : ℕ → ℤ) → terms (up_to n f) (up_to n g) ≡ up_to n (λ i. term (f i) (g i))
 unfolding up_to
-terms-up_to zero f g = refl
-terms-up_to (suc n) f g = rw (terms_append (up_to n f) (up_to n g) (f n) (g n) (length-up_to n f ∙ sym (length-up_to n g)), terms-up_to n f g)
+terms_up_to zero f g = refl
+terms_up_to (suc n) f g = rw (terms_append (up_to n f) (up_to n g) (f n) (g n) (length_up_to n f ∙ sym (length_up_to n g)), terms_up_to n f g)
 
 pub filled_terms : {room : ℕ} {f : ℕ → ℕ} {g : ℕ → ℤ} {fs : List ℕ} {ms : List ℤ} {n : ℕ} → Filled room f fs n → Filled room g ms n
     → terms (take n fs) (take n ms) ≡ up_to n (λ i. term (f i) (g i))
-filled_terms {room} {f} {g} {fs} {ms} {n} r s = rw (r.read, s.read) (terms-up_to n f g)
+filled_terms {room} {f} {g} {fs} {ms} {n} r s = rw (r.read, s.read) (terms_up_to n f g)

@@ -16,8 +16,8 @@ pub lower_half : (n : ℕ) → n < 0x8000_0000 → to_z w32 n ≡ signed n
 lower_half n h = simp (lt-ltb n 0x8000_0000 h)
 
 module _ (n : ℕ) (h : 0x8000_0000 ≤ n) where
-  below-zero : negsuc 0 -ℤ to_z w32 (0xffff_ffff - n) ≡ negsuc (0xffff_ffff - n)
-  below-zero =
+  below_zero : negsuc 0 -ℤ to_z w32 (0xffff_ffff - n) ≡ negsuc (0xffff_ffff - n)
+  below_zero =
       ap (λ (z : ℤ). negsuc 0 -ℤ z) (to_z_pos w32 (0xffff_ffff - n) (omega arith))
       ∙ omega (ints, sub_parts (negsuc 0) (pos (0xffff_ffff - n)))
 
@@ -25,7 +25,7 @@ module _ (n : ℕ) (h : 0x8000_0000 ≤ n) where
   fits = sfits_of (omega arith)
 
   pub upper_fits : SFits w32 (negsuc 0 -ℤ to_z w32 (0xffff_ffff - n))
-  upper_fits = fit below-zero fits
+  upper_fits = fit below_zero fits
 
   pub upper_half : to_z w32 (of_z w32 (negsuc 0 -ℤ to_z w32 (0xffff_ffff - n))) ≡ signed n
-  upper_half = simp (le-ltb n 0x8000_0000 h) (read w32 below-zero fits)
+  upper_half = simp (le-ltb n 0x8000_0000 h) (read w32 below_zero fits)

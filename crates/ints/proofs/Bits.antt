@@ -9,7 +9,7 @@ use mir.Val.{to_z, of_z, SFits}
 use mir.ValLaws.{to_z-of_z}
 use Rattle.ints.specs.Tests.{eq_z}
 use Rattle.ints.proofs.Bools.{T-same}
-use Rattle.ints.proofs.Order.{eq_z→eq, eq_z-refl}
+use Rattle.ints.proofs.Order.{eq_z→eq, eq_z_refl}
 use Rattle.ints.proofs.Size.{wider}
 
 -- the bits of v, which is x and fits, are read back as x
@@ -22,17 +22,17 @@ fit {w} e f = subst (SFits w) (sym e) f
 
 -- `==` compares bits, which are the same exactly where the numbers are
 module _ (w : Width) (x y : ℤ) (fx : SFits w x) (fy : SFits w y) where
-  pub bits-eq_z : eqb (of_z w x) (of_z w y) ≡ eq_z x y
-  bits-eq_z =
+  pub bits_eq_z : eqb (of_z w x) (of_z w y) ≡ eq_z x y
+  bits_eq_z =
       T-same _ _
-      (λ t. let e : x ≡ y = sym (to_z-of_z w x fx) ∙ ap (to_z w) (eqb→eq _ _ t) ∙ to_z-of_z w y fy in subst (λ (z : ℤ). T (eq_z x z)) e (eq_z-refl x))
+      (λ t. let e : x ≡ y = sym (to_z-of_z w x fx) ∙ ap (to_z w) (eqb→eq _ _ t) ∙ to_z-of_z w y fy in subst (λ (z : ℤ). T (eq_z x z)) e (eq_z_refl x))
       (λ t. subst (λ (z : ℤ). T (eqb (of_z w x) (of_z w z))) (eq_z→eq x y t) (eqb_refl (of_z w x)))
 
-  pub bits-same : of_z w x ≡ of_z w y → eq_z x y ≡ true
-  bits-same e = sym bits-eq_z ∙ eq-eqb (of_z w x) (of_z w y) e
+  pub bits_same : of_z w x ≡ of_z w y → eq_z x y ≡ true
+  bits_same e = sym bits_eq_z ∙ eq-eqb (of_z w x) (of_z w y) e
 
   pub bits_differ : (of_z w x ≡ of_z w y → ⊥) → eq_z x y ≡ false
-  bits_differ n = sym bits-eq_z ∙ ne_eqb (of_z w x) (of_z w y) n
+  bits_differ n = sym bits_eq_z ∙ ne_eqb (of_z w x) (of_z w y) n
 
 -- ---- an i32 taken for an i64
 

@@ -81,6 +81,6 @@ unfolding Multiple
 multiple_neg d a (q, e) = (neg_ℤ q, ap neg_ℤ e ∙ sym (mul_neg d q))
 
 -- only 0 is a multiple of 0
-pub divides-zero : (z : ℤ) → divides (pos 0) z ≡ eq_z z (pos 0)
-divides-zero (pos n) = rw (mod-zero n)
-divides-zero (negsuc n) = rw (mod-zero (suc n)) (eqb-suc-zero n)
+pub divides_zero : (z : ℤ) → divides (pos 0) z ≡ eq_z z (pos 0)
+divides_zero (pos n) = rw (mod-zero n)
+divides_zero (negsuc n) = rw (mod-zero (suc n)) (eqb-suc-zero n)

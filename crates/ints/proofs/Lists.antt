@@ -15,12 +15,12 @@ use Rattle.ints.proofs.Bools.{T_and, and_T}
 
 module _ {A : Type 0} (p : A → Bool) (xs : List A) (i : ℕ) (d : A) where
   -- the element at i fails: all from i on fail
-  pub all-fails : i < length xs → p (get_or xs i d) ≡ false → all p (drop i xs) ≡ false
-  all-fails l h = simp (drop-cons xs i d l, h)
+  pub all_fails : i < length xs → p (get_or xs i d) ≡ false → all p (drop i xs) ≡ false
+  all_fails l h = simp (drop-cons xs i d l, h)
 
   -- the element at i passes: what is left to test is the rest
-  pub all-next : i < length xs → p (get_or xs i d) ≡ true → all p (drop i xs) ≡ all p (drop (i + 1) xs)
-  all-next l h = simp (drop-cons xs i d l, h, add-one)
+  pub all_next : i < length xs → p (get_or xs i d) ≡ true → all p (drop i xs) ≡ all p (drop (i + 1) xs)
+  all_next l h = simp (drop-cons xs i d l, h, add-one)
 
   -- nothing is left
   pub all_over : length xs ≤ i → all p (drop i xs) ≡ true
@@ -75,13 +75,13 @@ module _ {A B : Type 0} (p : B → Bool) (f : A → B) where
   all_map [] = refl
   all_map (x ∷ xs) = rw (all_map xs)
 
-  pub any-map : (xs : List A) → any p (map f xs) ≡ any (λ x. p (f x)) xs
-  any-map [] = refl
-  any-map (x ∷ xs) = rw (any-map xs)
+  pub any_map : (xs : List A) → any p (map f xs) ≡ any (λ x. p (f x)) xs
+  any_map [] = refl
+  any_map (x ∷ xs) = rw (any_map xs)
 
-pub all-and : {A : Type 0} (p q : A → Bool) (xs : List A) → all p xs && all q xs ≡ all (λ x. p x && q x) xs
-all-and p q [] = refl
-all-and p q (x ∷ xs) = go (p x) (q x) (all-and p q xs)
+pub all_and : {A : Type 0} (p q : A → Bool) (xs : List A) → all p xs && all q xs ≡ all (λ x. p x && q x) xs
+all_and p q [] = refl
+all_and p q (x ∷ xs) = go (p x) (q x) (all_and p q xs)
   where
     go : (a b : Bool) → all p xs && all q xs ≡ all (λ x. p x && q x) xs
         → (a && all p xs) && (b && all q xs) ≡ (a && b) && all (λ x. p x && q x) xs
@@ -89,7 +89,7 @@ all-and p q (x ∷ xs) = go (p x) (q x) (all-and p q xs)
     go true false e = and-false (all p xs)
     go false b e = refl
 
-pub length-up_to : {A : Type 0} (n : ℕ) (f : ℕ → A) → length (up_to n f) ≡ n
+pub length_up_to : {A : Type 0} (n : ℕ) (f : ℕ → A) → length (up_to n f) ≡ n
 unfolding up_to
-length-up_to zero f = refl
-length-up_to (suc n) f = rw length-append (omega (arith, length-up_to n f))
+length_up_to zero f = refl
+length_up_to (suc n) f = rw length-append (omega (arith, length_up_to n f))

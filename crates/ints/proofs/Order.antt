@@ -42,9 +42,9 @@ eq_z→eq (pos a) (negsuc b) t = absurd t
 eq_z→eq (negsuc a) (pos b) t = absurd t
 eq_z→eq (negsuc a) (negsuc b) t = ap negsuc (eqb→eq a b t)
 
-pub eq_z-refl : (a : ℤ) → T (eq_z a a)
-eq_z-refl (pos a) = eqb_refl a
-eq_z-refl (negsuc a) = eqb_refl a
+pub eq_z_refl : (a : ℤ) → T (eq_z a a)
+eq_z_refl (pos a) = eqb_refl a
+eq_z_refl (negsuc a) = eqb_refl a
 
 pub eq_zs→eq : (xs ys : List ℤ) → T (eq_zs xs ys) → xs ≡ ys
 eq_zs→eq [] [] t = refl
@@ -53,17 +53,17 @@ eq_zs→eq (x ∷ xs) [] t = absurd t
 eq_zs→eq (x ∷ xs) (y ∷ ys) t =
     let h = T_and (eq_z x y) (eq_zs xs ys) t in rw (eq_z→eq x y h.0, eq_zs→eq xs ys h.1)
 
-pub eq_zs-refl : (xs : List ℤ) → T (eq_zs xs xs)
-eq_zs-refl [] = tt
-eq_zs-refl (x ∷ xs) = and_T (eq_z x x) (eq_zs xs xs) (eq_z-refl x) (eq_zs-refl xs)
+pub eq_zs_refl : (xs : List ℤ) → T (eq_zs xs xs)
+eq_zs_refl [] = tt
+eq_zs_refl (x ∷ xs) = and_T (eq_z x x) (eq_zs xs xs) (eq_z_refl x) (eq_zs_refl xs)
 
-pub lt→not-le : (a b : ℤ) → lt_z a b ≡ true → le_z b a ≡ false
-lt→not-le a b e =
+pub lt→not_le : (a b : ℤ) → lt_z a b ≡ true → le_z b a ≡ false
+lt→not_le a b e =
     let l : a <ℤ b = lt_z_yes (true→T e) in
     T→false (le_z b a) (λ t. let m : b ≤ℤ a = le_z_yes t in omega ints)
 
-pub not-lt→le : (a b : ℤ) → lt_z a b ≡ false → le_z b a ≡ true
-not-lt→le a b e = let l : b ≤ℤ a = lt_z_no (false→T e) in T→true (le_z b a) l.le
+pub not_lt→le : (a b : ℤ) → lt_z a b ≡ false → le_z b a ≡ true
+not_lt→le a b e = let l : b ≤ℤ a = lt_z_no (false→T e) in T→true (le_z b a) l.le
 
 pub between→le : (low high z : ℤ) → T (between low high z) → (low ≤ℤ z) × (z ≤ℤ high)
 between→le low high z t = let h = T_and (le_z low z) (le_z z high) t in (le_z_yes h.0, le_z_yes h.1)

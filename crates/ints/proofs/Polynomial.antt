@@ -43,8 +43,8 @@ parts_are (a ⊗ b) =
 
 -- a goal on ℤ from one on naturals
 
-pub eq-by : (e f : Exp) → (parts e).0 + (parts f).1 ≡ (parts f).0 + (parts e).1 → eval e ≡ eval f
-eq-by e f h = parts→eq _ _ (omega (arith, parts_are e, parts_are f))
+pub eq_by : (e f : Exp) → (parts e).0 + (parts f).1 ≡ (parts f).0 + (parts e).1 → eval e ≡ eval f
+eq_by e f h = parts→eq _ _ (omega (arith, parts_are e, parts_are f))
 
 -- what a hypothesis on ℤ says of naturals
 

@@ -12,22 +12,22 @@ use Rattle.ints.specs.Tests.{between}
 use Rattle.ints.proofs.Order.{between→le}
 use Rattle.ints.proofs.Parts.{up, down, add_parts, up_neg, down_neg, up_mul, down_mul, le→parts}
 
-pub nat_abs-is : (a : ℤ) → nat_abs a ≡ up a + down a
-nat_abs-is (pos n) = omega arith
-nat_abs-is (negsuc n) = omega arith
+pub nat_abs_is : (a : ℤ) → nat_abs a ≡ up a + down a
+nat_abs_is (pos n) = omega arith
+nat_abs_is (negsuc n) = omega arith
 
-pub nat_abs-add : (a b : ℤ) → nat_abs (a +ℤ b) ≤ nat_abs a + nat_abs b
-nat_abs-add a b = within (a +ℤ b) (add_parts a b)
+pub nat_abs_add : (a b : ℤ) → nat_abs (a +ℤ b) ≤ nat_abs a + nat_abs b
+nat_abs_add a b = within (a +ℤ b) (add_parts a b)
   where
     within : (z : ℤ) → up z + (down a + down b) ≡ down z + (up a + up b) → nat_abs z ≤ nat_abs a + nat_abs b
-    within (pos n) h = omega (arith, nat_abs-is a, nat_abs-is b)
-    within (negsuc n) h = omega (arith, nat_abs-is a, nat_abs-is b)
+    within (pos n) h = omega (arith, nat_abs_is a, nat_abs_is b)
+    within (negsuc n) h = omega (arith, nat_abs_is a, nat_abs_is b)
 
 pub nat_abs_mul : (a b : ℤ) → nat_abs (a *ℤ b) ≡ nat_abs a * nat_abs b
-nat_abs_mul a b = rw (nat_abs-is (a *ℤ b), nat_abs-is a, nat_abs-is b, up_mul, down_mul) (omega arith)
+nat_abs_mul a b = rw (nat_abs_is (a *ℤ b), nat_abs_is a, nat_abs_is b, up_mul, down_mul) (omega arith)
 
 pub nat_abs_neg : (a : ℤ) → nat_abs (neg_ℤ a) ≡ nat_abs a
-nat_abs_neg a = omega (arith, nat_abs-is (neg_ℤ a), nat_abs-is a, up_neg a, down_neg a)
+nat_abs_neg a = omega (arith, nat_abs_is (neg_ℤ a), nat_abs_is a, up_neg a, down_neg a)
 
 -- a product of sizes within their limits
 pub sizes : {a b m n : ℕ} → a ≤ m → b ≤ n → a * b ≤ m * n
@@ -41,16 +41,16 @@ within n (negsuc z) t =
 
 -- ---- what fits
 
-mag-le : (a : ℤ) → mag a ≤ nat_abs a
-mag-le (pos n) = omega arith
-mag-le (negsuc n) = omega arith
+mag_le : (a : ℤ) → mag a ≤ nat_abs a
+mag_le (pos n) = omega arith
+mag_le (negsuc n) = omega arith
 
 nat_abs_le : (a : ℤ) → nat_abs a ≤ suc (mag a)
 nat_abs_le (pos n) = omega arith
 nat_abs_le (negsuc n) = omega arith
 
-pub fits-by-size : (w : Width) (a : ℤ) → nat_abs a < 2 ^ hbits w → SFits w a
-fits-by-size w a h = record { sfits = omega (arith, mag-le a) }
+pub fits_by_size : (w : Width) (a : ℤ) → nat_abs a < 2 ^ hbits w → SFits w a
+fits_by_size w a h = record { sfits = omega (arith, mag_le a) }
 
 pub size_32 : {x : ℤ} → SFits w32 x → nat_abs x ≤ 2147483648
 size_32 {x} f = omega (arith, nat_abs_le x, f.sfits)

@@ -10,50 +10,50 @@ use lib.ListN.{length, get_or, take, drop, replicate, length-take, length-drop, 
 use lib.Seq.{take_all, take-append-le, drop_at, get_or_at, ext_get_or}
 use Rattle.ints.specs.Tests.{up_to, all}
 use Rattle.ints.proofs.Bools.{T_and, and_T}
-use Rattle.ints.proofs.Lists.{all_append, length-up_to}
+use Rattle.ints.proofs.Lists.{all_append, length_up_to}
 use Rattle.session.specs.Cells.{down_from}
 use Rattle.laid.specs.Laid.{padded}
 
 module _ {A : Type 0} where
   -- ---- upwards
 
-  pub get_or-up_to : (n : ℕ) (f : ℕ → A) (i : ℕ) (d : A) → i < n → get_or (up_to n f) i d ≡ f i
+  pub get_or_up_to : (n : ℕ) (f : ℕ → A) (i : ℕ) (d : A) → i < n → get_or (up_to n f) i d ≡ f i
   unfolding up_to
-  get_or-up_to zero f i d h = absurd (omega arith)
-  get_or-up_to (suc n) f i d h =
-      let e = length-up_to n f in
+  get_or_up_to zero f i d h = absurd (omega arith)
+  get_or_up_to (suc n) f i d h =
+      let e = length_up_to n f in
       elim (dec_lt i n) [
-        | yes q ↦ get_or-append (up_to n f) (f n ∷ []) d i (omega arith) ∙ get_or-up_to n f i d q
+        | yes q ↦ get_or-append (up_to n f) (f n ∷ []) d i (omega arith) ∙ get_or_up_to n f i d q
         | no q ↦ (let k : i ≡ n = omega arith in rw k (get_or_at (up_to n f) (f n) [] d n e))
       ]
 
-  pub take-up_to : (k n : ℕ) (f : ℕ → A) → k ≤ n → take k (up_to n f) ≡ up_to k f
+  pub take_up_to : (k n : ℕ) (f : ℕ → A) → k ≤ n → take k (up_to n f) ≡ up_to k f
   unfolding up_to
-  take-up_to k zero f h = let e : k ≡ 0 = omega arith in rw e
-  take-up_to k (suc n) f h =
+  take_up_to k zero f h = let e : k ≡ 0 = omega arith in rw e
+  take_up_to k (suc n) f h =
       elim (dec_le k n) [
-        | yes q ↦ take-append-le k (up_to n f) (f n ∷ []) (omega (arith, length-up_to n f)) ∙ take-up_to k n f q
-        | no q ↦ (let e : k ≡ suc n = omega arith in rw e (take_all (suc n) (up_to (suc n) f) (omega (arith, length-up_to (suc n) f))))
+        | yes q ↦ take-append-le k (up_to n f) (f n ∷ []) (omega (arith, length_up_to n f)) ∙ take_up_to k n f q
+        | no q ↦ (let e : k ≡ suc n = omega arith in rw e (take_all (suc n) (up_to (suc n) f) (omega (arith, length_up_to (suc n) f))))
       ]
 
-  pub all-up_to : (p : A → Bool) (n : ℕ) (f : ℕ → A) → ((i : ℕ) → i < n → T (p (f i))) → T (all p (up_to n f))
+  pub all_up_to : (p : A → Bool) (n : ℕ) (f : ℕ → A) → ((i : ℕ) → i < n → T (p (f i))) → T (all p (up_to n f))
   unfolding up_to
-  all-up_to p zero f h = tt
-  all-up_to p (suc n) f h =
-      simp (all_append, and-true) (and_T (all p (up_to n f)) (p (f n)) (all-up_to p n f (λ i q. h i (omega arith))) (h n (omega arith)))
+  all_up_to p zero f h = tt
+  all_up_to p (suc n) f h =
+      simp (all_append, and-true) (and_T (all p (up_to n f)) (p (f n)) (all_up_to p n f (λ i q. h i (omega arith))) (h n (omega arith)))
 
   -- a list is what it has at each index
-  pub up_to-is : (xs : List A) (f : ℕ → A) (d : A) → ((i : ℕ) → i < length xs → f i ≡ get_or xs i d) → up_to (length xs) f ≡ xs
-  up_to-is xs f d h =
-      let e = length-up_to (length xs) f in
-      ext_get_or d (up_to (length xs) f) xs e (λ i q. get_or-up_to (length xs) f i d (omega arith) ∙ h i (omega arith))
+  pub up_to_is : (xs : List A) (f : ℕ → A) (d : A) → ((i : ℕ) → i < length xs → f i ≡ get_or xs i d) → up_to (length xs) f ≡ xs
+  up_to_is xs f d h =
+      let e = length_up_to (length xs) f in
+      ext_get_or d (up_to (length xs) f) xs e (λ i q. get_or_up_to (length xs) f i d (omega arith) ∙ h i (omega arith))
 
   -- ---- downwards
 
-  pub length-down_from : (n : ℕ) (f : ℕ → A) → length (down_from n f) ≡ n
+  pub length_down_from : (n : ℕ) (f : ℕ → A) → length (down_from n f) ≡ n
   unfolding down_from
-  length-down_from zero f = refl
-  length-down_from (suc n) f = ap suc (length-down_from n f)
+  length_down_from zero f = refl
+  length_down_from (suc n) f = ap suc (length_down_from n f)
 
   pub down_from_agree : (n : ℕ) (f g : ℕ → A) → ((k : ℕ) → k < n → f k ≡ g k) → down_from n f ≡ down_from n g
   unfolding down_from
@@ -67,19 +67,19 @@ module _ {A : Type 0} (z : A) (n : ℕ) (p : A → Bool) where
   all_same zero h = tt
   all_same (suc k) h = and_T (p z) (all p (replicate k z)) h (all_same k h)
 
-  same-all : ((x : A) → T (p x) → x ≡ z) → (xs : List A) → T (all p xs) → replicate (length xs) z ≡ xs
-  same-all f [] t = refl
-  same-all f (x ∷ xs) t = let (h, k) = T_and (p x) (all p xs) t in rw (same-all f xs k, f x h)
+  same_all : ((x : A) → T (p x) → x ≡ z) → (xs : List A) → T (all p xs) → replicate (length xs) z ≡ xs
+  same_all f [] t = refl
+  same_all f (x ∷ xs) t = let (h, k) = T_and (p x) (all p xs) t in rw (same_all f xs k, f x h)
 
   -- behind a list's own k cells
-  pub padded-zero : (xs : List A) (k : ℕ) → length xs ≡ k → T (p z) → T (all p (drop k (padded z n xs)))
+  pub padded_zero : (xs : List A) (k : ℕ) → length xs ≡ k → T (p z) → T (all p (drop k (padded z n xs)))
   unfolding padded
-  padded-zero xs k e h = rw (drop_at xs (replicate (n - length xs) z) k e) (all_same (n - length xs) h)
+  padded_zero xs k e h = rw (drop_at xs (replicate (n - length xs) z) k e) (all_same (n - length xs) h)
 
   -- the front of a list that goes on so
-  pub padded-front : (xs : List A) (k : ℕ) → length xs ≡ n → k ≤ n → ((x : A) → T (p x) → x ≡ z) → T (all p (drop k xs))
+  pub padded_front : (xs : List A) (k : ℕ) → length xs ≡ n → k ≤ n → ((x : A) → T (p x) → x ≡ z) → T (all p (drop k xs))
       → padded z n (take k xs) ≡ xs
   unfolding padded
-  padded-front xs k e h f t =
+  padded_front xs k e h f t =
       let a : n - length (take k xs) ≡ length (drop k xs) = simp (length-take, length-drop) (omega arith) in
-      rw (a, same-all f (drop k xs) t) (take-append-drop k xs)
+      rw (a, same_all f (drop k xs) t) (take-append-drop k xs)

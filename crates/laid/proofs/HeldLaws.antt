@@ -2,7 +2,7 @@
 use mathlib.Core.Path.{◌≡◌, ap}
 use Prim.Native.Nat.{ℕ}
 use lib.ListN.{length}
-use Rattle.ints.proofs.Lists.{length-up_to}
+use Rattle.ints.proofs.Lists.{length_up_to}
 use Rattle.rows.specs.Form.{form_at}
 use Rattle.ledger.specs.Ledger.{literal_count}
 use Rattle.ledger.specs.Legal.{Legal}
@@ -17,27 +17,27 @@ module _ {n : ℕ} {s : Session} {t : Tables} (h : Held n s t) where
   pub held_clauses : Clauses n s t
   held_clauses = clauses h.ordered
 
-  pub held-legal : Legal n (ledger_of n s t)
-  held-legal = legal_back n s t h.exact h.ordered
+  pub held_legal : Legal n (ledger_of n s t)
+  held_legal = legal_back n s t h.exact h.ordered
 
-  pub held-session : session_of (ledger_of n s t) ≡ s
-  held-session = (laid_back n s t h.exact h.ordered).0
+  pub held_session : session_of (ledger_of n s t) ≡ s
+  held_session = (laid_back n s t h.exact h.ordered).0
 
-  pub held-tables : tables_of n (ledger_of n s t) ≡ t
-  held-tables = (laid_back n s t h.exact h.ordered).1
+  pub held_tables : tables_of n (ledger_of n s t) ≡ t
+  held_tables = (laid_back n s t h.exact h.ordered).1
 
-  pub form-count : length (ledger_of n s t).forms ≡ s.forms
+  pub form_count : length (ledger_of n s t).forms ≡ s.forms
   unfolding ledger_of
-  form-count = length-up_to s.forms (form_at n t.forms)
+  form_count = length_up_to s.forms (form_at n t.forms)
 
-  pub line-count : length (ledger_of n s t).lines ≡ s.lines
+  pub line_count : length (ledger_of n s t).lines ≡ s.lines
   unfolding ledger_of
-  line-count = length-up_to s.lines (line_at t)
+  line_count = length_up_to s.lines (line_at t)
 
   pub literal_count_lem : literal_count (ledger_of n s t).lines ≡ s.literals
   unfolding session_of
-  literal_count_lem = ap (λ (x : Session). x.literals) held-session
+  literal_count_lem = ap (λ (x : Session). x.literals) held_session
 
-  pub level-count : length (ledger_of n s t).marks ≡ s.«open»
+  pub level_count : length (ledger_of n s t).marks ≡ s.«open»
   unfolding session_of
-  level-count = ap (λ (x : Session). x.«open») held-session
+  level_count = ap (λ (x : Session). x.«open») held_session

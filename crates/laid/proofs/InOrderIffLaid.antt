@@ -22,5 +22,5 @@ module _ (n : ℕ) (s : Session) (t : Tables) where
   pub in_order_laid : Exact n s t → Passed (order n s t) → LaidOut n s t (ledger_of n s t)
   in_order_laid e p = let (session, tables) = laid_back n s t e p in record { legal = legal_back n s t e p; session = session; tables = tables }
 
-  pub laid-in-order' : (l : Ledger) → LaidOut n s t l → Passed (order n s t) × (ledger_of n s t ≡ l)
-  laid-in-order' l o = rw (← o.session, ← o.tables) (laid_in_order n l o.legal, read_back n l o.legal)
+  pub laid_in_order' : (l : Ledger) → LaidOut n s t l → Passed (order n s t) × (ledger_of n s t ≡ l)
+  laid_in_order' l o = rw (← o.session, ← o.tables) (laid_in_order n l o.legal, read_back n l o.legal)

@@ -11,23 +11,23 @@ use Rattle.ints.specs.Tests.{all}
 use Rattle.ints.proofs.Bools.{T_and}
 use Rattle.rows.specs.Form.{Form, cells_of, cells_at, legal}
 use Rattle.ledger.specs.Ledger.{Line, no_form, no_line, literal_count}
-use Rattle.ledger.proofs.LegalLaws.{literals-take}
+use Rattle.ledger.proofs.LegalLaws.{literals_take}
 use Rattle.session.specs.Limits.{line_cells, form_cells}
 use Rattle.session.specs.Cells.{origin_at}
 use Rattle.laid.specs.Laid.{forms_laid, pool_laid, lines_laid}
-use Rattle.laid.proofs.LaidParts.{legal-row, length-cells}
+use Rattle.laid.proofs.LaidParts.{legal_row, length_cells}
 
 pub cells_at_lem : (n : ℕ) (fs : List Form) (z : List ℤ) (i : ℕ) → T (all (legal n) fs) → i < length fs
     → cells_at n (forms_laid fs ++ z) i ≡ cells_of (get_or fs i no_form)
 unfolding forms_laid
 cells_at_lem n [] z i t h = absurd (omega arith)
 cells_at_lem n (f ∷ fs) z zero t h =
-    let e = length-cells n f (legal-row n f (T_and (legal n f) (all (legal n) fs) t).0) in
+    let e = length_cells n f (legal_row n f (T_and (legal n f) (all (legal n) fs) t).0) in
     let q : form_cells n * 0 ≡ 0 = omega arith in
     rw (q, append_assoc) (take_at (cells_of f) (forms_laid fs ++ z) (form_cells n) e)
 cells_at_lem n (f ∷ fs) z (suc i) t h =
     let (legal, rest) = T_and (legal n f) (all (legal n) fs) t in
-    let e = length-cells n f (legal-row n f legal) in
+    let e = length_cells n f (legal_row n f legal) in
     let q : form_cells n * suc i ≡ length (cells_of f) + form_cells n * i = omega arith in
     rw (q, append_assoc, drop-append-add (cells_of f)) (cells_at_lem n fs z i rest (omega arith))
 
@@ -39,8 +39,8 @@ count_next [] i h = absurd (omega arith)
 count_next (x ∷ xs) zero h = omega arith
 count_next (x ∷ xs) (suc i) h = omega (arith, count_next xs i (omega arith))
 
-pub count-rises : (ls : List Line) (a b : ℕ) → a ≤ b → literal_count (take a ls) ≤ literal_count (take b ls)
-count-rises ls a b h = rw (take-take a b ls h) at (literals-take a (take b ls))
+pub count_rises : (ls : List Line) (a b : ℕ) → a ≤ b → literal_count (take a ls) ≤ literal_count (take b ls)
+count_rises ls a b h = rw (take-take a b ls h) at (literals_take a (take b ls))
 
 pub literals_at_lem : (ls : List Line) (z : List ℕ) (i : ℕ) → i < length ls
     → take (length (get_or ls i no_line).literals) (drop (literal_count (take i ls)) (pool_laid ls ++ z)) ≡ (get_or ls i no_line).literals

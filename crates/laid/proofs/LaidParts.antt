@@ -21,27 +21,27 @@ use Rattle.laid.specs.Laid.{padded, forms_laid, pool_laid, lines_laid, marks_lai
 
 -- ---- padding
 
-drop-replicate : {A : Type 0} (z : A) (k m : ℕ) → drop k (replicate (k + m) z) ≡ replicate m z
-drop-replicate z k m = rw (← replicate-append-replicate k m z) (drop_at (replicate k z) (replicate m z) k (length-replicate k z))
+drop_replicate : {A : Type 0} (z : A) (k m : ℕ) → drop k (replicate (k + m) z) ≡ replicate m z
+drop_replicate z k m = rw (← replicate-append-replicate k m z) (drop_at (replicate k z) (replicate m z) k (length-replicate k z))
 
 module _ {A : Type 0} (z : A) (n : ℕ) where
-  pub length-padded : (xs : List A) → length xs ≤ n → length (padded z n xs) ≡ n
+  pub length_padded : (xs : List A) → length xs ≤ n → length (padded z n xs) ≡ n
   unfolding padded
-  length-padded xs h = simp (length-append, length-replicate) (omega arith)
+  length_padded xs h = simp (length-append, length-replicate) (omega arith)
 
   module _ (xs ys whole : List A) (joined : whole ≡ xs ++ ys) (fits : length whole ≤ n) where
     both : length whole ≡ length xs + length ys
     both = rw joined (length-append xs ys)
 
-    pub padded-written : (at : ℕ) → length xs ≡ at → padded z n whole ≡ written at ys (padded z n xs)
+    pub padded_written : (at : ℕ) → length xs ≡ at → padded z n whole ≡ written at ys (padded z n xs)
     unfolding padded
-    padded-written at e =
+    padded_written at e =
         let left : n - length xs ≡ length ys + (n - length whole) = omega (arith, both) in
-        rw (← e, take-append_seam, drop-append-add, left, drop-replicate, joined, append_assoc)
+        rw (← e, take-append_seam, drop-append-add, left, drop_replicate, joined, append_assoc)
 
-    pub padded-cleared : (from to : ℕ) → length xs ≡ from → length whole ≡ to → padded z n xs ≡ cleared z from to (padded z n whole)
+    pub padded_cleared : (from to : ℕ) → length xs ≡ from → length whole ≡ to → padded z n xs ≡ cleared z from to (padded z n whole)
     unfolding padded
-    padded-cleared from to e d =
+    padded_cleared from to e d =
         let left : n - length xs ≡ length whole - length xs + (n - length whole) = omega (arith, both) in
         rw (← e, ← d, drop-append_seam, replicate-append-replicate, ← left, joined, append_assoc, take-append_seam)
 
@@ -49,41 +49,41 @@ module _ {A : Type 0} (z : A) (n : ℕ) where
     left : n - length xs ≡ suc (n - (length xs + 1))
     left = omega arith
 
-    pub padded-set : padded z n (xs ++ (y ∷ [])) ≡ set (padded z n xs) (length xs) y
+    pub padded_set : padded z n (xs ++ (y ∷ [])) ≡ set (padded z n xs) (length xs) y
     unfolding padded
-    padded-set = rw (length-append, append_assoc, left, set-append_seam)
+    padded_set = rw (length-append, append_assoc, left, set-append_seam)
 
     pub padded_unset : padded z n xs ≡ set (padded z n (xs ++ (y ∷ []))) (length xs) z
     unfolding padded
     padded_unset = rw (length-append, append_assoc, left, set-append_seam)
 
-    pub get_or-padded : (d : A) → get_or (padded z n (xs ++ (y ∷ []))) (length xs) d ≡ y
+    pub get_or_padded : (d : A) → get_or (padded z n (xs ++ (y ∷ []))) (length xs) d ≡ y
     unfolding padded
-    get_or-padded d = rw append_assoc (get_or-append_seam xs y _ d)
+    get_or_padded d = rw append_assoc (get_or-append_seam xs y _ d)
 
 -- ---- forms
 
-pub legal-row : (n : ℕ) (f : Form) → T (legal n f) → length f.row ≡ n + 1
+pub legal_row : (n : ℕ) (f : Form) → T (legal n f) → length f.row ≡ n + 1
 unfolding legal
-legal-row n f t =
+legal_row n f t =
     let heads = between (pos 1) (pos 3) f.kind && legal_divisor f.kind f.divisor in
     let long = eqb (length f.row) (n + 1) in
     eqb→eq (length f.row) (n + 1) (T_and heads long (T_and (heads && long) (all in_range f.row) t).0).1
 
-pub length-cells : (n : ℕ) (f : Form) → length f.row ≡ n + 1 → length (cells_of f) ≡ form_cells n
-length-cells n f e = omega arith
+pub length_cells : (n : ℕ) (f : Form) → length f.row ≡ n + 1 → length (cells_of f) ≡ form_cells n
+length_cells n f e = omega arith
 
 pub forms_append : (fs gs : List Form) → forms_laid (fs ++ gs) ≡ forms_laid fs ++ forms_laid gs
 unfolding forms_laid
 forms_append [] gs = refl
 forms_append (f ∷ fs) gs = rw (forms_append fs gs, append_assoc)
 
-pub length-forms : (n : ℕ) (fs : List Form) → T (all (legal n) fs) → length (forms_laid fs) ≡ form_cells n * length fs
+pub length_forms : (n : ℕ) (fs : List Form) → T (all (legal n) fs) → length (forms_laid fs) ≡ form_cells n * length fs
 unfolding forms_laid
-length-forms n [] t = omega arith
-length-forms n (f ∷ fs) t =
+length_forms n [] t = omega arith
+length_forms n (f ∷ fs) t =
     let (h, k) = T_and (legal n f) (all (legal n) fs) t in
-    rw (length-append (cells_of f) (forms_laid fs)) (omega (arith, length-cells n f (legal-row n f h), length-forms n fs k))
+    rw (length-append (cells_of f) (forms_laid fs)) (omega (arith, length_cells n f (legal_row n f h), length_forms n fs k))
 
 -- ---- lines
 
@@ -92,27 +92,27 @@ unfolding pool_laid
 pool_append [] ks = refl
 pool_append (x ∷ ls) ks = rw (pool_append ls ks, append_assoc)
 
-pub length-pool : (ls : List Line) → length (pool_laid ls) ≡ literal_count ls
+pub length_pool : (ls : List Line) → length (pool_laid ls) ≡ literal_count ls
 unfolding pool_laid
-length-pool [] = refl
-length-pool (x ∷ ls) = rw (length-append, length-pool ls)
+length_pool [] = refl
+length_pool (x ∷ ls) = rw (length-append, length_pool ls)
 
 pub lines_append : (e : ℕ) (ls ks : List Line) → lines_laid e (ls ++ ks) ≡ lines_laid e ls ++ lines_laid (e + literal_count ls) ks
 unfolding lines_laid
 lines_append e [] ks = rw add-zero
 lines_append e (x ∷ ls) ks = rw (lines_append (e + length x.literals) ls ks, add_assoc)
 
-pub length-lines : (e : ℕ) (ls : List Line) → length (lines_laid e ls) ≡ line_cells * length ls
+pub length_lines : (e : ℕ) (ls : List Line) → length (lines_laid e ls) ≡ line_cells * length ls
 unfolding lines_laid
-length-lines e [] = refl
-length-lines e (x ∷ ls) = omega (arith, length-lines (e + length x.literals) ls)
+length_lines e [] = refl
+length_lines e (x ∷ ls) = omega (arith, length_lines (e + length x.literals) ls)
 
 -- ---- marks
 
-pub length-marks : (ls : List Line) (ms : List LedgerMark) → length (marks_laid ls ms) ≡ length ms
+pub length_marks : (ls : List Line) (ms : List LedgerMark) → length (marks_laid ls ms) ≡ length ms
 unfolding marks_laid
-length-marks ls [] = refl
-length-marks ls (m ∷ ms) = rw length-append (omega (arith, length-marks ls ms))
+length_marks ls [] = refl
+length_marks ls (m ∷ ms) = rw length-append (omega (arith, length_marks ls ms))
 
 -- marks within n lines are laid alike over any lines that have the same first n
 pub marks_agree : (ls ks : List Line) (ms : List LedgerMark) (f n : ℕ) → MarksIn f n ms

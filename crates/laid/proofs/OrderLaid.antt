@@ -14,7 +14,7 @@ use lib.Seq.{take-add, take-suc, drop-cons}
 use Rattle.ints.specs.Tests.{up_to, eq_z}
 use Rattle.ints.proofs.Bools.{T_and}
 use Rattle.ints.proofs.Order.{eq_z→eq}
-use Rattle.ints.proofs.Lists.{length-up_to}
+use Rattle.ints.proofs.Lists.{length_up_to}
 use Rattle.rows.specs.Form.{cells_of, form_of, cells_at, form_at, legal}
 use Rattle.ledger.specs.Limits.{most_levels}
 use Rattle.ledger.specs.Literals.{names_below}
@@ -29,7 +29,7 @@ use Rattle.session.specs.Cells.{Tables, no_mark, counts_of, mark_at, end_before,
 use Rattle.session.specs.InOrder.{not_above, is_no_mark, order}
 use Rattle.session.proofs.Clauses.{not_above→le, Clauses, clauses}
 use Rattle.laid.specs.Laid.{padded, forms_laid, pool_laid, lines_laid, tables_of, marks_laid, session_of}
-use Rattle.laid.proofs.ByIndex.{get_or-up_to, take-up_to, all-up_to, length-down_from, padded-front}
+use Rattle.laid.proofs.ByIndex.{get_or_up_to, take_up_to, all_up_to, length_down_from, padded_front}
 use Rattle.laid.proofs.LaidParts.{forms_append, pool_append, lines_append}
 use Rattle.laid.specs.Held.{Exact}
 
@@ -70,24 +70,24 @@ module _ (n : ℕ) (s : Session) (t : Tables) (e : Exact n s t) (p : Passed (ord
 
   -- ---- the lines
 
-  ends-rise : (a b : ℕ) → a ≤ b → b ≤ s.lines → ends a ≤ ends b
-  ends-rise a zero h k = let q : a ≡ 0 = omega arith in rw q (omega arith)
-  ends-rise a (suc b) h k =
+  ends_rise : (a b : ℕ) → a ≤ b → b ≤ s.lines → ends a ≤ ends b
+  ends_rise a zero h k = let q : a ≡ 0 = omega arith in rw q (omega arith)
+  ends_rise a (suc b) h k =
       elim (dec_le a b) [
-        | yes r ↦ omega (arith, ends-rise a b r (omega arith), c.rise b k)
+        | yes r ↦ omega (arith, ends_rise a b r (omega arith), c.rise b k)
         | no r ↦ (let q : a ≡ suc b = omega arith in rw q (omega arith))
       ]
 
   pub in_pool : (i : ℕ) → i ≤ s.lines → ends i ≤ length t.pool
-  in_pool i h = omega (arith, ends-rise i s.lines h (omega arith), c.last, c.few-literals, e.sized.pool-size)
+  in_pool i h = omega (arith, ends_rise i s.lines h (omega arith), c.last, c.few_literals, e.sized.pool_size)
 
-  length-literals : (i : ℕ) → i < s.lines → length (literals_at t.pool t.lines i) ≡ ends (suc i) - ends i
-  length-literals i h = simp (length-take, length-drop) (omega (arith, in_pool (suc i) h, c.rise i h))
+  length_literals : (i : ℕ) → i < s.lines → length (literals_at t.pool t.lines i) ≡ ends (suc i) - ends i
+  length_literals i h = simp (length-take, length-drop) (omega (arith, in_pool (suc i) h, c.rise i h))
 
   count_back : (k : ℕ) → k ≤ s.lines → literal_count (lines k) ≡ ends k
   unfolding up_to
   count_back zero h = refl
-  count_back (suc k) h = rw literals_append (omega (arith, count_back k (omega arith), length-literals k h, c.rise k h))
+  count_back (suc k) h = rw literals_append (omega (arith, count_back k (omega arith), length_literals k h, c.rise k h))
 
   pool_back : (k : ℕ) → k ≤ s.lines → pool_laid (lines k) ≡ take (ends k) t.pool
   unfolding up_to pool_laid
@@ -101,97 +101,97 @@ module _ (n : ℕ) (s : Session) (t : Tables) (e : Exact n s t) (p : Passed (ord
   unfolding up_to lines_laid
   lines_back zero h = refl
   lines_back (suc k) h =
-      let room : line_cells * k + 1 < length t.lines = omega (arith, c.few-lines, e.sized.line-size) in
+      let room : line_cells * k + 1 < length t.lines = omega (arith, c.few_lines, e.sized.line_size) in
       let q : line_cells * suc k ≡ line_cells * k + line_cells = omega arith in
       let before = count_back k (omega arith) in
-      let here = length-literals k h in
+      let here = length_literals k h in
       let v : 0 + literal_count (lines k) + length (literals_at t.pool t.lines k) ≡ ends (suc k) = omega (arith, c.rise k h) in
       rw (q, lines_append, lines_back k (omega arith), v, take-add, two_cells t.lines (line_cells * k) room)
 
   -- ---- the marks
 
-  mark-end : (k : ℕ) → k < s.«open» → literal_count (take (mark_at s k).lines (lines s.lines)) ≡ (mark_at s k).literals
-  mark-end k h =
-      let (_, held, _) = not_above→le (mark_at s k) (counts_of s) (c.marks-held k h) in
-      rw (take-up_to (mark_at s k).lines s.lines (line_at t) held) (count_back (mark_at s k).lines held ∙ sym (c.marks-end k h))
+  mark_end : (k : ℕ) → k < s.«open» → literal_count (take (mark_at s k).lines (lines s.lines)) ≡ (mark_at s k).literals
+  mark_end k h =
+      let (_, held, _) = not_above→le (mark_at s k) (counts_of s) (c.marks_held k h) in
+      rw (take_up_to (mark_at s k).lines s.lines (line_at t) held) (count_back (mark_at s k).lines held ∙ sym (c.marks_end k h))
 
   marks_back : (k : ℕ) → k ≤ s.«open» → marks_laid (lines s.lines) (down_from k (level_at s)) ≡ take k s.marks
   unfolding down_from marks_laid
   marks_back zero h = refl
   marks_back (suc k) h =
-      rw (marks_back k (omega arith), mark-end k h) (sym (take-suc s.marks k no_mark (omega (arith, e.mark-size, c.few-levels))))
+      rw (marks_back k (omega arith), mark_end k h) (sym (take-suc s.marks k no_mark (omega (arith, e.mark_size, c.few_levels))))
 
   -- ---- laid out again
 
-  form-cells : padded (pos 0) (form_table n) (forms_laid (up_to s.forms (form_at n t.forms))) ≡ t.forms
-  form-cells =
-      let room : form_cells n * s.forms ≤ form_table n = omega (arith, mul-le-mul_left (form_cells n) c.few-forms) in
-      rw (forms_back n t.forms s.forms (omega (arith, e.sized.form-size)))
-      (padded-front (pos 0) _ (λ x. eq_z x (pos 0)) t.forms _ e.sized.form-size room (λ x. eq_z→eq x (pos 0)) c.forms-zero)
+  form_cells_lem : padded (pos 0) (form_table n) (forms_laid (up_to s.forms (form_at n t.forms))) ≡ t.forms
+  form_cells_lem =
+      let room : form_cells n * s.forms ≤ form_table n = omega (arith, mul-le-mul_left (form_cells n) c.few_forms) in
+      rw (forms_back n t.forms s.forms (omega (arith, e.sized.form_size)))
+      (padded_front (pos 0) _ (λ x. eq_z x (pos 0)) t.forms _ e.sized.form_size room (λ x. eq_z→eq x (pos 0)) c.forms_zero)
 
-  pool-cells : padded 0 pool_table (pool_laid (lines s.lines)) ≡ t.pool
-  pool-cells =
+  pool_cells : padded 0 pool_table (pool_laid (lines s.lines)) ≡ t.pool
+  pool_cells =
       rw (pool_back s.lines (omega arith), c.last)
-      (padded-front 0 _ (λ x. eqb x 0) t.pool _ e.sized.pool-size c.few-literals (λ x. eqb→eq x 0) c.pool-zero)
+      (padded_front 0 _ (λ x. eqb x 0) t.pool _ e.sized.pool_size c.few_literals (λ x. eqb→eq x 0) c.pool_zero)
 
-  line-cells : padded 0 line_table (lines_laid 0 (lines s.lines)) ≡ t.lines
-  line-cells =
-      let room : line_cells * s.lines ≤ line_table = omega (arith, c.few-lines) in
+  line_cells_lem : padded 0 line_table (lines_laid 0 (lines s.lines)) ≡ t.lines
+  line_cells_lem =
+      let room : line_cells * s.lines ≤ line_table = omega (arith, c.few_lines) in
       rw (lines_back s.lines (omega arith))
-      (padded-front 0 _ (λ x. eqb x 0) t.lines _ e.sized.line-size room (λ x. eqb→eq x 0) c.lines-zero)
+      (padded_front 0 _ (λ x. eqb x 0) t.lines _ e.sized.line_size room (λ x. eqb→eq x 0) c.lines_zero)
 
-  mark-cells : padded no_mark most_levels (marks_laid (lines s.lines) (down_from s.«open» (level_at s))) ≡ s.marks
-  mark-cells =
-      rw (marks_back s.«open» (omega arith)) (padded-front no_mark _ is_no_mark s.marks _ e.mark-size c.few-levels no_mark_lem c.marks-zero)
+  mark_cells : padded no_mark most_levels (marks_laid (lines s.lines) (down_from s.«open» (level_at s))) ≡ s.marks
+  mark_cells =
+      rw (marks_back s.«open» (omega arith)) (padded_front no_mark _ is_no_mark s.marks _ e.mark_size c.few_levels no_mark_lem c.marks_zero)
 
-  form-count : length (up_to s.forms (form_at n t.forms)) ≡ s.forms
-  form-count = length-up_to s.forms (form_at n t.forms)
+  form_count : length (up_to s.forms (form_at n t.forms)) ≡ s.forms
+  form_count = length_up_to s.forms (form_at n t.forms)
 
-  line-count : length (lines s.lines) ≡ s.lines
-  line-count = length-up_to s.lines (line_at t)
+  line_count : length (lines s.lines) ≡ s.lines
+  line_count = length_up_to s.lines (line_at t)
 
   literal_count_lem : literal_count (lines s.lines) ≡ s.literals
   literal_count_lem = count_back s.lines (omega arith) ∙ c.last
 
-  level-count : length (down_from s.«open» (level_at s)) ≡ s.«open»
-  level-count = length-down_from s.«open» (level_at s)
+  level_count : length (down_from s.«open» (level_at s)) ≡ s.«open»
+  level_count = length_down_from s.«open» (level_at s)
 
   pub laid_back : (session_of (ledger_of n s t) ≡ s) × (tables_of n (ledger_of n s t) ≡ t)
   unfolding session_of tables_of ledger_of
   laid_back = (
-    λ i. record { forms = form-count i; lines = line-count i; literals = literal_count_lem i; «open» = level-count i; marks = mark-cells i },
-    λ i. record { forms = form-cells i; pool = pool-cells i; lines = line-cells i },
+    λ i. record { forms = form_count i; lines = line_count i; literals = literal_count_lem i; «open» = level_count i; marks = mark_cells i },
+    λ i. record { forms = form_cells_lem i; pool = pool_cells i; lines = line_cells_lem i },
   )
 
   -- ---- legal
 
   -- the first k levels, below m
-  levels-legal : (k : ℕ) (m : Mark) → k ≤ s.«open» → ((j : ℕ) → suc j ≡ k → T (not_above (mark_at s j) m))
+  levels_legal : (k : ℕ) (m : Mark) → k ≤ s.«open» → ((j : ℕ) → suc j ≡ k → T (not_above (mark_at s j) m))
       → ((i : ℕ) → i < m.lines → T (names_below m.forms (literals_at t.pool t.lines i)))
       → MarksIn m.forms m.lines (down_from k (level_at s)) × Named m.forms (lines m.lines) (down_from k (level_at s))
   unfolding down_from
-  levels-legal zero m h top names = (tt, all-up_to (line_below m.forms) m.lines (line_at t) names)
-  levels-legal (suc k) m h top names =
+  levels_legal zero m h top names = (tt, all_up_to (line_below m.forms) m.lines (line_at t) names)
+  levels_legal (suc k) m h top names =
       let (forms, count, _) = not_above→le (mark_at s k) m (top k refl) in
-      let (marked, named) = levels-legal k (mark_at s k) (omega arith) (λ j q. rw (← q) (c.marks-rise j (omega arith))) (c.marks_name k h) in
-      let below = all-up_to (line_below m.forms) m.lines (line_at t) names in
-      ((forms, count, marked), (below, rw (take-up_to (mark_at s k).lines m.lines (line_at t) count) named))
+      let (marked, named) = levels_legal k (mark_at s k) (omega arith) (λ j q. rw (← q) (c.marks_rise j (omega arith))) (c.marks_name k h) in
+      let below = all_up_to (line_below m.forms) m.lines (line_at t) names in
+      ((forms, count, marked), (below, rw (take_up_to (mark_at s k).lines m.lines (line_at t) count) named))
 
-  line-legal : (i : ℕ) → i < s.lines → LegalLine s.forms (line_at t i)
-  line-legal i h =
-      record { origin = c.origins i h; short = omega (arith, length-literals i h, c.short i h); ascends = c.ascends i h; names = c.names i h }
+  line_legal : (i : ℕ) → i < s.lines → LegalLine s.forms (line_at t i)
+  line_legal i h =
+      record { origin = c.origins i h; short = omega (arith, length_literals i h, c.short i h); ascends = c.ascends i h; names = c.names i h }
 
   pub legal_back : Legal n (ledger_of n s t)
   unfolding ledger_of
   legal_back =
-      let (marked, named) = levels-legal s.«open» (counts_of s) (omega arith) (λ j q. c.marks-held j (omega arith)) c.names in
+      let (marked, named) = levels_legal s.«open» (counts_of s) (omega arith) (λ j q. c.marks_held j (omega arith)) c.names in
       record {
-        few-forms = rw form-count c.few-forms;
-        few-lines = rw line-count c.few-lines;
-        few-literals = rw literal_count_lem c.few-literals;
-        few-levels = rw level-count c.few-levels;
-        contents = all-up_to (legal n) s.forms (form_at n t.forms) c.contents;
-        each = λ i h. let q : i < s.lines = rw line-count at h in rw (form-count, get_or-up_to s.lines (line_at t) i no_line q) (line-legal i q);
-        marked = rw (form-count, line-count) marked;
-        named = rw form-count named;
+        few_forms = rw form_count c.few_forms;
+        few_lines = rw line_count c.few_lines;
+        few_literals = rw literal_count_lem c.few_literals;
+        few_levels = rw level_count c.few_levels;
+        contents = all_up_to (legal n) s.forms (form_at n t.forms) c.contents;
+        each = λ i h. let q : i < s.lines = rw line_count at h in rw (form_count, get_or_up_to s.lines (line_at t) i no_line q) (line_legal i q);
+        marked = rw (form_count, line_count) marked;
+        named = rw form_count named;
       }

@@ -10,7 +10,7 @@ use Rattle.session.specs.InOrder.{order}
 -- tables of their named cells and no more, and a mark for each level
 pub record Exact (n : ℕ) (s : Session) (t : Tables) : Type 0 where
   pub sized : Sized n t
-  pub mark-size : length s.marks ≡ most_levels
+  pub mark_size : length s.marks ≡ most_levels
 
 pub record Held (n : ℕ) (s : Session) (t : Tables) : Type 0 where
   pub exact : Exact n s t

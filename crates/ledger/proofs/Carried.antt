@@ -22,7 +22,7 @@ use Rattle.ledger.specs.Premises.{premises_true}
 use Rattle.ledger.specs.History.{after_bytes, NoWD}
 use Rattle.ledger.specs.Kept.{AcceptedBytes, bytes_in_force}
 use Rattle.ledger.specs.Carried.{forms_carried, lists_carried, satisfied}
-use Rattle.ledger.proofs.InForce.{accepted-done, bytes_in_force_lem}
+use Rattle.ledger.proofs.InForce.{accepted_done, bytes_in_force_lem}
 use Rattle.ledger.proofs.StruckOut.{in_force_no_wd}
 
 flat_map_append : {A B : Type 0} (f : A → List B) (xs ys : List A) → flat_map f (xs ++ ys) ≡ flat_map f xs ++ flat_map f ys
@@ -75,9 +75,9 @@ module _ {A : Type 0} (f : New → List A) (ls : List Line) (b : List ℕ) where
       go true e r = e
       go false e r = r
 
-form-says : (ls : List Line) (b : List ℕ) → carried_by form_in ls (decode b) ≡ cond (has_letters b (of_rule fm)) (form_from b ∷ []) []
+form_says : (ls : List Line) (b : List ℕ) → carried_by form_in ls (decode b) ≡ cond (has_letters b (of_rule fm)) (form_from b ∷ []) []
 unfolding decode carried_by form_in makes
-form-says ls b = go (has_letters b (of_rule fm)) (first_bare form_in ls b (drop 1 marks) tt)
+form_says ls b = go (has_letters b (of_rule fm)) (first_bare form_in ls b (drop 1 marks) tt)
   where
     go : (h : Bool) → carried_by form_in ls (decode_as b (first_of b (drop 1 marks))) ≡ []
         → carried_by form_in ls (decode_as b (cond h (bears (of_rule fm)) (first_of b (drop 1 marks)))) ≡ cond h (form_from b ∷ []) []
@@ -115,11 +115,11 @@ module _ (l : Ledger) where
   list_added (new_form f) = sym (append-nil (premise_lists l.lines))
   list_added (new_line x) = flat_map_append _ l.lines (x ∷ [])
 
-  forms-done : (r : Record) → (r ≡ WD → ⊥) → (done l r).forms ≡ l.forms ++ carried_by form_in l.lines r
+  forms_done : (r : Record) → (r ≡ WD → ⊥) → (done l r).forms ≡ l.forms ++ carried_by form_in l.lines r
   unfolding done opened carried_by
-  forms-done (make r) w = form_added (makes l.lines r)
-  forms-done OP w = sym (append-nil l.forms)
-  forms-done WD w = absurd (w refl)
+  forms_done (make r) w = form_added (makes l.lines r)
+  forms_done OP w = sym (append-nil l.forms)
+  forms_done WD w = absurd (w refl)
 
   premises_done : (r : Record) → (r ≡ WD → ⊥) → premise_lists (done l r).lines ≡ premise_lists l.lines ++ carried_by list_in l.lines r
   unfolding done opened carried_by
@@ -130,17 +130,17 @@ module _ (l : Ledger) where
 -- ---- accepted bytes with no WD among them
 
 module _ (n : ℕ) where
-  accepted-carried : (ks : List (List ℕ)) → AcceptedBytes n ks → NoWD ks
+  accepted_carried : (ks : List (List ℕ)) → AcceptedBytes n ks → NoWD ks
       → ((after_bytes n ks).forms ≡ forms_carried (reverse ks)) × (premise_lists (after_bytes n ks).lines ≡ lists_carried (reverse ks))
   unfolding after_bytes AcceptedBytes NoWD forms_carried lists_carried premise_lists flat_map
-  accepted-carried [] a w = (refl, refl)
-  accepted-carried (b ∷ ks) a w =
+  accepted_carried [] a w = (refl, refl)
+  accepted_carried (b ∷ ks) a w =
       let l = after_bytes n ks in
-      let (f, p) = accepted-carried ks a.1 w.1 in
-      let same = accepted-done n l b (decode b) refl a.0 in (
+      let (f, p) = accepted_carried ks a.1 w.1 in
+      let same = accepted_done n l b (decode b) refl a.0 in (
         ap (λ (m : Ledger). m.forms) same
-            ∙ forms-done l (decode b) w.0
-            ∙ (λ i. f i ++ form-says l.lines b i)
+            ∙ forms_done l (decode b) w.0
+            ∙ (λ i. f i ++ form_says l.lines b i)
             ∙ sym (flat_map_latest _ b ks),
         ap (λ (m : Ledger). premise_lists m.lines) same
             ∙ premises_done l (decode b) w.0
@@ -151,15 +151,15 @@ module _ (n : ℕ) where
   -- ---- a history, and the bytes in force of it, the first first
 
   module _ (h : List (List ℕ)) where
-    pub forms-carried : (after_bytes n h).forms ≡ forms_carried (reverse (bytes_in_force n h))
-    forms-carried =
+    pub forms_carried_lem : (after_bytes n h).forms ≡ forms_carried (reverse (bytes_in_force n h))
+    forms_carried_lem =
         let (same, a) = bytes_in_force_lem n h in
-        ap (λ (m : Ledger). m.forms) (sym same) ∙ (accepted-carried (bytes_in_force n h) a (in_force_no_wd n h)).0
+        ap (λ (m : Ledger). m.forms) (sym same) ∙ (accepted_carried (bytes_in_force n h) a (in_force_no_wd n h)).0
 
     pub premises_carried : premise_lists (after_bytes n h).lines ≡ lists_carried (reverse (bytes_in_force n h))
     premises_carried =
         let (same, a) = bytes_in_force_lem n h in
-        ap (λ (m : Ledger). premise_lists m.lines) (sym same) ∙ (accepted-carried (bytes_in_force n h) a (in_force_no_wd n h)).1
+        ap (λ (m : Ledger). premise_lists m.lines) (sym same) ∙ (accepted_carried (bytes_in_force n h) a (in_force_no_wd n h)).1
 
 -- the premises among lines are true where their literal lists are satisfied
 pub premises_satisfied : (ρ : Integers) (fs : List Form) (ls : List Line) → premises_true ρ fs ls ≡ satisfied ρ fs (premise_lists ls)

@@ -42,8 +42,8 @@ same-Zs [] (y ∷ ys) t = absurd t
 same-Zs (x ∷ xs) [] t = absurd t
 same-Zs (x ∷ xs) (y ∷ ys) t = let (h, r) = T_and (eq_z x y) (eq_zs xs ys) t in λ i. same-Z x y h i ∷ same-Zs xs ys r i
 
-same-form : (f g : Form) → T (same_form f g) → f ≡ g
-same-form f g t =
+same_form_lem : (f g : Form) → T (same_form f g) → f ≡ g
+same_form_lem f g t =
     let (r, rows) = T_and (eq_z f.kind g.kind && eq_z f.divisor g.divisor) (eq_zs f.row g.row) t in
     let (k, d) = T_and (eq_z f.kind g.kind) (eq_z f.divisor g.divisor) r in
     λ i. record {
@@ -57,36 +57,36 @@ same_line_lem x y t =
     let (o, xs) = T_and (eqb x.origin y.origin) (same_lists eqb x.literals y.literals) t in
     λ i. record { origin = eqb→eq x.origin y.origin o i; literals = same_numbers x.literals y.literals xs i }
 
-same-mark : (m o : Mark) → T (same_mark m o) → m ≡ o
-same-mark m o t =
+same_mark_lem : (m o : Mark) → T (same_mark m o) → m ≡ o
+same_mark_lem m o t =
     let (f, l) = T_and (eqb m.forms o.forms) (eqb m.lines o.lines) t in
     λ i. record { forms = eqb→eq m.forms o.forms f i; lines = eqb→eq m.lines o.lines l i }
 
-same-ledger : (l k : Ledger) → T (same_ledger l k) → l ≡ k
-same-ledger l k t =
+same_ledger_lem : (l k : Ledger) → T (same_ledger l k) → l ≡ k
+same_ledger_lem l k t =
     let forms = same_lists same_form l.forms k.forms in
     let lines = same_lists same_line l.lines k.lines in
     let (r, m) = T_and (forms && lines) (same_lists same_mark l.marks k.marks) t in
     let (f, x) = T_and forms lines r in
     λ i. record {
-      forms = same_lists_lem same_form same-form l.forms k.forms f i;
+      forms = same_lists_lem same_form same_form_lem l.forms k.forms f i;
       lines = same_lists_lem same_line same_line_lem l.lines k.lines x i;
-      marks = same_lists_lem same_mark same-mark l.marks k.marks m i;
+      marks = same_lists_lem same_mark same_mark_lem l.marks k.marks m i;
     }
 
-same-made : (m o : Made) → T (same_made m o) → m ≡ o
-same-made (form f) (form g) t = ap form (eqb→eq f g t)
-same-made (form f) (line j) t = absurd t
-same-made (form f) (level k) t = absurd t
-same-made (line i) (form g) t = absurd t
-same-made (line i) (line j) t = ap line (eqb→eq i j t)
-same-made (line i) (level k) t = absurd t
-same-made (level n) (form g) t = absurd t
-same-made (level n) (line j) t = absurd t
-same-made (level n) (level k) t = ap level (eqb→eq n k t)
+same_made_lem : (m o : Made) → T (same_made m o) → m ≡ o
+same_made_lem (form f) (form g) t = ap form (eqb→eq f g t)
+same_made_lem (form f) (line j) t = absurd t
+same_made_lem (form f) (level k) t = absurd t
+same_made_lem (line i) (form g) t = absurd t
+same_made_lem (line i) (line j) t = ap line (eqb→eq i j t)
+same_made_lem (line i) (level k) t = absurd t
+same_made_lem (level n) (form g) t = absurd t
+same_made_lem (level n) (line j) t = absurd t
+same_made_lem (level n) (level k) t = ap level (eqb→eq n k t)
 
 same_answer_lem : (a b : Answer) → T (same_answer a b) → a ≡ b
-same_answer_lem (accepted m) (accepted o) t = ap accepted (same-made m o t)
+same_answer_lem (accepted m) (accepted o) t = ap accepted (same_made_lem m o t)
 same_answer_lem (accepted m) (refused k) t = absurd t
 same_answer_lem (refused j) (accepted o) t = absurd t
 same_answer_lem (refused j) (refused k) t = ap refused (eqb→eq j k t)
@@ -94,14 +94,14 @@ same_answer_lem (refused j) (refused k) t = ap refused (eqb→eq j k t)
 pub same_outcome_lem : (o p : Outcome) → T (same_outcome o p) → o ≡ p
 same_outcome_lem o p t =
     let (a, l) = T_and (same_answer o.answer p.answer) (same_ledger o.ledger p.ledger) t in
-    λ i. record { answer = same_answer_lem o.answer p.answer a i; ledger = same-ledger o.ledger p.ledger l i }
+    λ i. record { answer = same_answer_lem o.answer p.answer a i; ledger = same_ledger_lem o.ledger p.ledger l i }
 
 -- ---- what is fed one after the other
 
-pub fed-same : (k : ℕ) (l : Ledger) (bs : List (List ℕ)) → (fed_from k l bs).ledger ≡ fed_all unknowns l bs
+pub fed_same : (k : ℕ) (l : Ledger) (bs : List (List ℕ)) → (fed_from k l bs).ledger ≡ fed_all unknowns l bs
 unfolding fed_from fed_all
-fed-same k l [] = refl
-fed-same k l (b ∷ bs) = fed-same (k + more (apply_bytes unknowns l b).answer) (apply_bytes unknowns l b).ledger bs
+fed_same k l [] = refl
+fed_same k l (b ∷ bs) = fed_same (k + more (apply_bytes unknowns l b).answer) (apply_bytes unknowns l b).ledger bs
 
 fed_at_most : (k : ℕ) (l : Ledger) (bs : List (List ℕ)) → (fed_from k l bs).accepted ≤ k + length bs
 unfolding fed_from
@@ -115,10 +115,10 @@ fed_at_most k l (b ∷ bs) =
     one (refused j) = omega arith
 
 -- as many are accepted as there are, so each is
-pub fed-accepted : (k : ℕ) (l : Ledger) (bs : List (List ℕ)) → (fed_from k l bs).accepted ≡ k + length bs → AllAccepted unknowns l bs
+pub fed_accepted : (k : ℕ) (l : Ledger) (bs : List (List ℕ)) → (fed_from k l bs).accepted ≡ k + length bs → AllAccepted unknowns l bs
 unfolding fed_from AllAccepted
-fed-accepted k l [] e = tt
-fed-accepted k l (b ∷ bs) e = go (apply_bytes unknowns l b).answer refl e (fed-accepted (k + 1) l' bs)
+fed_accepted k l [] e = tt
+fed_accepted k l (b ∷ bs) e = go (apply_bytes unknowns l b).answer refl e (fed_accepted (k + 1) l' bs)
   where
     l' : Ledger
     l' = (apply_bytes unknowns l b).ledger

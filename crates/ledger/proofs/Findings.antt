@@ -45,21 +45,21 @@ fail_append (c ∷ cs) ds k e = go c.passes e (fail_append cs ds k)
     go true f rest = rest f
     go false f rest = f
 
-pub passed-front : (cs ds : List Check) → Passed (cs ++ ds) → Passed cs
-passed-front [] ds p = tt
-passed-front (c ∷ cs) ds p = (p.0, passed-front cs ds p.1)
+pub passed_front : (cs ds : List Check) → Passed (cs ++ ds) → Passed cs
+passed_front [] ds p = tt
+passed_front (c ∷ cs) ds p = (p.0, passed_front cs ds p.1)
 
 pub passed_back : (cs ds : List Check) → Passed (cs ++ ds) → Passed ds
 passed_back [] ds p = p
 passed_back (c ∷ cs) ds p = passed_back cs ds p.1
 
 -- a list of tests refuses with none but its numbers
-pub finding-number : (p : ℕ → Bool) (cs : List Check) {j : ℕ} → T (all (λ c. p c.number) cs) → finding cs ≡ fail j → T (p j)
+pub finding_number : (p : ℕ → Bool) (cs : List Check) {j : ℕ} → T (all (λ c. p c.number) cs) → finding cs ≡ fail j → T (p j)
 unfolding finding
-finding-number p [] t e = never (cc)
-finding-number p (c ∷ cs) {j} t e =
+finding_number p [] t e = never (cc)
+finding_number p (c ∷ cs) {j} t e =
     let (first, others) = T_and (p c.number) (all (λ d. p d.number) cs) t in
-    go c.passes e first (finding-number p cs others)
+    go c.passes e first (finding_number p cs others)
   where
     go : (b : Bool) → cond b (finding cs) (fail c.number) ≡ fail j → T (p c.number) → (finding cs ≡ fail j → T (p j)) → T (p j)
     go true e h rest = rest e
@@ -67,14 +67,14 @@ finding-number p (c ∷ cs) {j} t e =
 
 -- ---- what is judged by a finding
 
-judged-accepted : (f : Finding) (l : Ledger) (o : Outcome) (m : Made) → (judged f l o).answer ≡ accepted m → (f ≡ pass) × (judged f l o ≡ o)
-judged-accepted pass l o m e = (refl, refl)
-judged-accepted (fail k) l o m e = (cc, cc)
+judged_accepted : (f : Finding) (l : Ledger) (o : Outcome) (m : Made) → (judged f l o).answer ≡ accepted m → (f ≡ pass) × (judged f l o ≡ o)
+judged_accepted pass l o m e = (refl, refl)
+judged_accepted (fail k) l o m e = (cc, cc)
 
-judged-refused : (f : Finding) (l : Ledger) (o : Outcome) (k : ℕ) → (o.answer ≡ refused k → o.ledger ≡ l)
+judged_refused : (f : Finding) (l : Ledger) (o : Outcome) (k : ℕ) → (o.answer ≡ refused k → o.ledger ≡ l)
     → (judged f l o).answer ≡ refused k → (judged f l o).ledger ≡ l
-judged-refused pass l o k same e = same e
-judged-refused (fail j) l o k same e = refl
+judged_refused pass l o k same e = same e
+judged_refused (fail j) l o k same e = refl
 
 -- what the ledger has, and the outcome's ledger has where the tests pass, the ledger has after the judgement
 pub judged_keeps : (P : Ledger → Type 0) (cs : List Check) (l : Ledger) (o : Outcome) → P l → (Passed cs → P o.ledger)
@@ -89,10 +89,10 @@ judged_keeps P (c ∷ cs) l o has f = go c.passes (λ t. judged_keeps P cs l o h
 
 -- ---- a record, on a ledger of forms of n unknowns
 
-pub by-checks : (n : ℕ) (l : Ledger) (r : Record)
+pub by_checks : (n : ℕ) (l : Ledger) (r : Record)
     → apply n l r ≡ judged (finding (checks n l r)) l (record { answer = accepted (made l r); ledger = done l r })
 unfolding apply
-by-checks n l r = refl
+by_checks n l r = refl
 
 -- the tests of its rule come first, and what the rule makes is then settled by those of the ledger
 pub in_two_steps : (n : ℕ) (l : Ledger) (r : Record) → apply n l r ≡ settles l (proposed n l.forms l.lines r)
@@ -109,31 +109,31 @@ in_two_steps n l WD = refl
 
 -- what the ledger has, and an accepted record leaves, the ledger has after any record
 pub apply_keeps : (P : Ledger → Type 0) (n : ℕ) (l : Ledger) (r : Record) → P l → (Passed (checks n l r) → P (done l r)) → P (apply n l r).ledger
-apply_keeps P n l r has f = rw (by-checks n l r) (judged_keeps P (checks n l r) l _ has f)
+apply_keeps P n l r has f = rw (by_checks n l r) (judged_keeps P (checks n l r) l _ has f)
 
 module _ (n : ℕ) (l : Ledger) (r : Record) where
   pub accepted_exactly : Passed (checks n l r) → apply n l r ≡ record { answer = accepted (made l r); ledger = done l r }
-  accepted_exactly p = rw (by-checks n l r, passed→pass (checks n l r) p)
+  accepted_exactly p = rw (by_checks n l r, passed→pass (checks n l r) p)
 
-  accepted-passed : (m : Made) → (apply n l r).answer ≡ accepted m → Passed (checks n l r)
-  accepted-passed m e = pass→passed (checks n l r) (judged-accepted (finding (checks n l r)) l _ m (rw (by-checks n l r) at e)).0
+  accepted_passed : (m : Made) → (apply n l r).answer ≡ accepted m → Passed (checks n l r)
+  accepted_passed m e = pass→passed (checks n l r) (judged_accepted (finding (checks n l r)) l _ m (rw (by_checks n l r) at e)).0
 
-  pub apply-accepted : (m : Made) → (apply n l r).answer ≡ accepted m → Passed (checks n l r) × ((apply n l r).ledger ≡ done l r) × (m ≡ made l r)
-  apply-accepted m e =
-      let p = accepted-passed m e in
+  pub apply_accepted : (m : Made) → (apply n l r).answer ≡ accepted m → Passed (checks n l r) × ((apply n l r).ledger ≡ done l r) × (m ≡ made l r)
+  apply_accepted m e =
+      let p = accepted_passed m e in
       let same = accepted_exactly p in
       (p, ap (λ (o : Outcome). o.ledger) same, (cc))
 
-  pub apply-refused : (k : ℕ) → (apply n l r).answer ≡ refused k → (apply n l r).ledger ≡ l
-  apply-refused k e = rw (by-checks n l r) (judged-refused (finding (checks n l r)) l _ k (λ f. cc) (rw (by-checks n l r) at e))
+  pub apply_refused : (k : ℕ) → (apply n l r).answer ≡ refused k → (apply n l r).ledger ≡ l
+  apply_refused k e = rw (by_checks n l r) (judged_refused (finding (checks n l r)) l _ k (λ f. cc) (rw (by_checks n l r) at e))
 
 -- ---- bytes
 
 module _ (n : ℕ) (l : Ledger) (b : List ℕ) where
-  pub bytes-accepted : (m : Made) → (apply_bytes n l b).answer ≡ accepted m → Passed (shape b) × (apply_bytes n l b ≡ apply n l (decode b))
+  pub bytes_accepted : (m : Made) → (apply_bytes n l b).answer ≡ accepted m → Passed (shape b) × (apply_bytes n l b ≡ apply n l (decode b))
   unfolding apply_bytes
-  bytes-accepted m e = let (p, same) = judged-accepted (finding (shape b)) l (apply n l (decode b)) m e in (pass→passed (shape b) p, same)
+  bytes_accepted m e = let (p, same) = judged_accepted (finding (shape b)) l (apply n l (decode b)) m e in (pass→passed (shape b) p, same)
 
-  pub bytes-refused : (k : ℕ) → (apply_bytes n l b).answer ≡ refused k → (apply_bytes n l b).ledger ≡ l
+  pub bytes_refused : (k : ℕ) → (apply_bytes n l b).answer ≡ refused k → (apply_bytes n l b).ledger ≡ l
   unfolding apply_bytes
-  bytes-refused k e = judged-refused (finding (shape b)) l (apply n l (decode b)) k (apply-refused n l (decode b) k) e
+  bytes_refused k e = judged_refused (finding (shape b)) l (apply n l (decode b)) k (apply_refused n l (decode b) k) e

@@ -19,17 +19,17 @@ use Rattle.ledger.specs.Split.{front}
 use Rattle.ledger.specs.Run.{Misshapen, Requires}
 use Rattle.ledger.proofs.RunLaws.{front_record}
 use Rattle.ledger.proofs.Numbers.{number_in, apply_found}
-use Rattle.ledger.proofs.RuleLaws.{checks-follow}
+use Rattle.ledger.proofs.RuleLaws.{checks_follow}
 use Rattle.ledger.proofs.LayoutLaws.{longest_record, in_longest, count_most, list_behind}
-use Rattle.ledger.proofs.FrontLaws.{too_few, none-known, requires_fixed, count_missing, count_wrong, requires_counted, not_there}
+use Rattle.ledger.proofs.FrontLaws.{too_few, none_known, requires_fixed, count_missing, count_wrong, requires_counted, not_there}
 
 -- ---- marks and their layouts
 
-pub mark-behind : (b c : List ℕ) → 2 ≤ length b → mark_of (b ++ c) ≡ mark_of b
+pub mark_behind : (b c : List ℕ) → 2 ≤ length b → mark_of (b ++ c) ≡ mark_of b
 unfolding mark_of
-mark-behind [] c h = absurd (omega arith)
-mark-behind (x ∷ []) c h = absurd (omega arith)
-mark-behind (x ∷ y ∷ b) c h = refl
+mark_behind [] c h = absurd (omega arith)
+mark_behind (x ∷ []) c h = absurd (omega arith)
+mark_behind (x ∷ y ∷ b) c h = refl
 
 -- ---- the record at the front, with bytes behind it
 
@@ -46,12 +46,12 @@ module _ (b : List ℕ) (h : 2 ≤ length b) where
   longer : (c : List ℕ) → 2 ≤ length (b ++ c)
   longer c = rw length-append (omega arith)
 
-  cut-unknown : mark_of b ≡ unknown → Cut b
-  cut-unknown e = wrong 4 (λ z. omega arith) (λ c. misshapen (none-known (b ++ c) (longer c) (mark-behind b c h ∙ e)))
+  cut_unknown : mark_of b ≡ unknown → Cut b
+  cut_unknown e = wrong 4 (λ z. omega arith) (λ c. misshapen (none_known (b ++ c) (longer c) (mark_behind b c h ∙ e)))
 
   module _ (m : RecordMark) (e : mark_of b ≡ bears m) where
     behind : (c : List ℕ) → mark_of (b ++ c) ≡ bears m
-    behind c = mark-behind b c h ∙ e
+    behind c = mark_behind b c h ∙ e
 
     -- so many bytes are required, whatever follows
     cut_required : (n : ℕ) → Requires b m n → ((c : List ℕ) → front (b ++ c) ≡ n) → n ≤ longest_record → Cut b
@@ -59,17 +59,17 @@ module _ (b : List ℕ) (h : 2 ≤ length b) where
       | yes q ↦ short (not_there r q) (omega arith)
       | no q ↦
           let g : n ≤ length b = omega arith in
-          whole (rw r.front-is (r.right g)) (rw r.front-is g) (λ c. same c ∙ sym r.front-is)
+          whole (rw r.front_is (r.right g)) (rw r.front_is g) (λ c. same c ∙ sym r.front_is)
     ]
 
-    cut-fixed : (layout m).counted ≡ false → Cut b
-    cut-fixed u =
-        cut_required (layout m).bytes (requires_fixed b m e h u) (λ c. (requires_fixed (b ++ c) m (behind c) (longer c) u).front-is)
+    cut_fixed : (layout m).counted ≡ false → Cut b
+    cut_fixed u =
+        cut_required (layout m).bytes (requires_fixed b m e h u) (λ c. (requires_fixed (b ++ c) m (behind c) (longer c) u).front_is)
         (omega (arith, in_longest m 0 (omega arith)))
 
     module _ (u : (layout m).counted ≡ true) where
-      cut-before-count : length b ≤ (layout m).place → Cut b
-      cut-before-count l = short (count_missing b m e h u l) (omega (arith, list_behind m u, in_longest m 0 (omega arith)))
+      cut_before_count : length b ≤ (layout m).place → Cut b
+      cut_before_count l = short (count_missing b m e h u l) (omega (arith, list_behind m u, in_longest m 0 (omega arith)))
 
       module _ (there : (layout m).place < length b) where
         same_count : (c : List ℕ) → count_from m (b ++ c) ≡ count_from m b
@@ -78,21 +78,21 @@ module _ (b : List ℕ) (h : 2 ≤ length b) where
         still_there : (c : List ℕ) → (layout m).place < length (b ++ c)
         still_there c = rw length-append (omega arith)
 
-        cut-counted : (p : Bool) → count_in m (count_from m b) ≡ p → Cut b
-        cut-counted true i =
+        cut_counted : (p : Bool) → count_in m (count_from m b) ≡ p → Cut b
+        cut_counted true i =
             cut_required (bytes_for m (count_from m b)) (requires_counted b m e h u there i)
-            (λ c. (requires_counted (b ++ c) m (behind c) (longer c) u (still_there c) (rw (same_count c) i)).front-is ∙ rw (same_count c))
+            (λ c. (requires_counted (b ++ c) m (behind c) (longer c) u (still_there c) (rw (same_count c) i)).front_is ∙ rw (same_count c))
             (in_longest m (count_from m b) (count_most m (count_from m b) (true→T i)))
-        cut-counted false i =
+        cut_counted false i =
             wrong 5 (λ z. omega arith)
             (λ c. misshapen (count_wrong (b ++ c) m (behind c) (longer c) u (still_there c) (rw (same_count c) i)))
 
-    cut-marked : (p : Bool) → (layout m).counted ≡ p → Cut b
-    cut-marked true u = elim (dec_lt (layout m).place (length b)) [
-      | yes q ↦ cut-counted u q (count_in m (count_from m b)) refl
-      | no q ↦ cut-before-count u (omega arith)
+    cut_marked : (p : Bool) → (layout m).counted ≡ p → Cut b
+    cut_marked true u = elim (dec_lt (layout m).place (length b)) [
+      | yes q ↦ cut_counted u q (count_in m (count_from m b)) refl
+      | no q ↦ cut_before_count u (omega arith)
     ]
-    cut-marked false u = cut-fixed u
+    cut_marked false u = cut_fixed u
 
 pub cut : (b : List ℕ) → Cut b
 cut b = elim (dec_lt (length b) 2) [
@@ -101,8 +101,8 @@ cut b = elim (dec_lt (length b) 2) [
 ]
   where
     go : (v : Bearing) → mark_of b ≡ v → 2 ≤ length b → Cut b
-    go unknown e h = cut-unknown b h e
-    go (bears m) e h = cut-marked b h m e (layout m).counted refl
+    go unknown e h = cut_unknown b h e
+    go (bears m) e h = cut_marked b h m e (layout m).counted refl
 
 -- ---- a refusal, with bytes behind it
 
@@ -121,14 +121,14 @@ module _ (n : ℕ) (l : Ledger) where
 
 -- ---- only the shape refuses with 3
 
-apply-beyond : (n : ℕ) (l : Ledger) (r : Record) → (apply n l r).answer ≡ refused 3 → ⊥
-apply-beyond n l r e = number_in record_order (checks n l r) (checks-follow n l r) ((apply_found n l r 3).0 e)
+apply_beyond : (n : ℕ) (l : Ledger) (r : Record) → (apply n l r).answer ≡ refused 3 → ⊥
+apply_beyond n l r e = number_in record_order (checks n l r) (checks_follow n l r) ((apply_found n l r 3).0 e)
 
 module _ (n : ℕ) (l : Ledger) where
   pub three_is_short : (b : List ℕ) → (apply_bytes n l (front_record b)).answer ≡ refused 3 → length b < longest_record
   unfolding apply_bytes
   three_is_short b e = elim (cut b) [
-    | whole p h same ↦ absurd (apply-beyond n l (decode (front_record b)) (rw p at e))
+    | whole p h same ↦ absurd (apply_beyond n l (decode (front_record b)) (rw p at e))
     | wrong j f p ↦
         let Failed : List ℕ → Type 0 = λ (x : List ℕ). finding (shape (front_record x)) ≡ fail j in
         let here : Failed b = subst Failed (append-nil b) (p []) in

@@ -12,22 +12,22 @@ use Rattle.ledger.specs.Apply.{done}
 use Rattle.ledger.specs.Bytes.{decode, apply_bytes}
 use Rattle.ledger.specs.History.{after_bytes}
 use Rattle.ledger.specs.Kept.{strike, entered, kept, AcceptedBytes, bytes_in_force}
-use Rattle.ledger.proofs.Findings.{apply-accepted, bytes-accepted, bytes-refused}
+use Rattle.ledger.proofs.Findings.{apply_accepted, bytes_accepted, bytes_refused}
 use Rattle.ledger.specs.Legal.{Marked}
-use Rattle.ledger.proofs.Withdrawal.{withdrawn-opened, withdrawn-add, marks-add, marked-done}
+use Rattle.ledger.proofs.Withdrawal.{withdrawn_opened, withdrawn_add, marks_add, marked_done}
 
 -- ---- what bytes do, against the record that they say
 
-passed-level : (n : ℕ) (l : Ledger) → Passed (checks n l WD) → 0 < length l.marks
+passed_level : (n : ℕ) (l : Ledger) → Passed (checks n l WD) → 0 < length l.marks
 unfolding checks
-passed-level n l p = ltb→lt 0 (length l.marks) p.0
+passed_level n l p = ltb→lt 0 (length l.marks) p.0
 
 module _ (n : ℕ) (l : Ledger) (b : List ℕ) (m : Made) (e : (apply_bytes n l b).answer ≡ accepted m) where
   pub when_accepted : (apply_bytes n l b).ledger ≡ done l (decode b)
-  when_accepted = let same = (bytes-accepted n l b m e).1 in rw same (apply-accepted n l (decode b) m (rw same at e)).1
+  when_accepted = let same = (bytes_accepted n l b m e).1 in rw same (apply_accepted n l (decode b) m (rw same at e)).1
 
   pub level_open : decode b ≡ WD → 0 < length l.marks
-  level_open s = passed-level n l (rw s at (apply-accepted n l (decode b) m (rw (bytes-accepted n l b m e).1 at e)).0)
+  level_open s = passed_level n l (rw s at (apply_accepted n l (decode b) m (rw (bytes_accepted n l b m e).1 at e)).0)
 
 -- a record that can be in force
 abbrev Stands : Record → Type 0
@@ -57,30 +57,30 @@ module _ (n : ℕ) where
       go WD e rest = rw (e, strike) rest
 
 module _ (n : ℕ) where
-  pub marked-after : (h : List (List ℕ)) → Marked (after_bytes n h)
+  pub marked_after : (h : List (List ℕ)) → Marked (after_bytes n h)
   unfolding after_bytes
-  marked-after [] = tt
-  marked-after (x ∷ xs) = go (apply_bytes n l x).answer refl (marked-after xs)
+  marked_after [] = tt
+  marked_after (x ∷ xs) = go (apply_bytes n l x).answer refl (marked_after xs)
     where
       l : Ledger
       l = after_bytes n xs
 
       go : (a : Answer) → (apply_bytes n l x).answer ≡ a → Marked l → Marked (apply_bytes n l x).ledger
-      go (accepted m) e h = rw (when_accepted n l x m e) (marked-done l (decode x) h)
-      go (refused k) e h = rw (bytes-refused n l x k e) h
+      go (accepted m) e h = rw (when_accepted n l x m e) (marked_done l (decode x) h)
+      go (refused k) e h = rw (bytes_refused n l x k e) h
 
-  pub accepted-done : (l : Ledger) (x : List ℕ) (r : Record) → decode x ≡ r → is_accepted (apply_bytes n l x).answer → (apply_bytes n l x).ledger ≡ done l r
-  accepted-done l x r s t = go (apply_bytes n l x).answer refl t
+  pub accepted_done : (l : Ledger) (x : List ℕ) (r : Record) → decode x ≡ r → is_accepted (apply_bytes n l x).answer → (apply_bytes n l x).ledger ≡ done l r
+  accepted_done l x r s t = go (apply_bytes n l x).answer refl t
     where
       go : (a : Answer) → (apply_bytes n l x).answer ≡ a → is_accepted a → (apply_bytes n l x).ledger ≡ done l r
       go (accepted m) e t = when_accepted n l x m e ∙ ap (done l) s
       go (refused k) e t = absurd t
 
-  strike-withdraws : (ks : List (List ℕ)) → Clean n ks → 0 < length (after_bytes n ks).marks
+  strike_withdraws : (ks : List (List ℕ)) → Clean n ks → 0 < length (after_bytes n ks).marks
       → after_bytes n (strike ks) ≡ withdrawn (after_bytes n ks)
   unfolding Clean after_bytes done
-  strike-withdraws [] c p = absurd (omega arith)
-  strike-withdraws (x ∷ xs) c p = go (decode x) refl (strike-withdraws xs c.2)
+  strike_withdraws [] c p = absurd (omega arith)
+  strike_withdraws (x ∷ xs) c p = go (decode x) refl (strike_withdraws xs c.2)
     where
       l : Ledger
       l = after_bytes n xs
@@ -88,17 +88,17 @@ module _ (n : ℕ) where
       go : (r : Record) → decode x ≡ r → (0 < length l.marks → after_bytes n (strike xs) ≡ withdrawn l)
           → after_bytes n (strike (x ∷ xs)) ≡ withdrawn (apply_bytes n l x).ledger
       go (make r) e rest =
-          let same = accepted-done l x (make r) e c.0 in
-          let q : 0 < length l.marks = rw (same, marks-add l (makes l.lines r)) at p in
-          rw (e, strike, same, withdrawn-add l (makes l.lines r) (marked-after xs) q) (rest q)
-      go OP e rest = rw (e, strike, accepted-done l x OP e c.0) (sym (withdrawn-opened l))
+          let same = accepted_done l x (make r) e c.0 in
+          let q : 0 < length l.marks = rw (same, marks_add l (makes l.lines r)) at p in
+          rw (e, strike, same, withdrawn_add l (makes l.lines r) (marked_after xs) q) (rest q)
+      go OP e rest = rw (e, strike, accepted_done l x OP e c.0) (sym (withdrawn_opened l))
       go WD e rest = absurd (rw e at c.1)
 
   -- one item more, on a history that is all in force
   kept_clean : (x : List ℕ) (ks : List (List ℕ)) → Clean n ks → (a : Answer) → (apply_bytes n (after_bytes n ks) x).answer ≡ a
       → (after_bytes n (kept a x ks) ≡ (apply_bytes n (after_bytes n ks) x).ledger) × Clean n (kept a x ks)
   unfolding Clean after_bytes done
-  kept_clean x ks c (refused k) e = (sym (bytes-refused n (after_bytes n ks) x k e), c)
+  kept_clean x ks c (refused k) e = (sym (bytes_refused n (after_bytes n ks) x k e), c)
   kept_clean x ks c (accepted m) e = go (decode x) refl
     where
       t : is_accepted (apply_bytes n (after_bytes n ks) x).answer
@@ -109,8 +109,8 @@ module _ (n : ℕ) where
       go (make r) s = rw (s, entered) (refl, (t, subst Stands (sym s) tt, c))
       go OP s = rw (s, entered) (refl, (t, subst Stands (sym s) tt, c))
       go WD s =
-          rw (s, entered, accepted-done (after_bytes n ks) x WD s t)
-          (strike-withdraws ks c (level_open n (after_bytes n ks) x m e s), strike_clean n ks c)
+          rw (s, entered, accepted_done (after_bytes n ks) x WD s t)
+          (strike_withdraws ks c (level_open n (after_bytes n ks) x m e s), strike_clean n ks c)
 
   in_force_clean : (h : List (List ℕ)) → (after_bytes n (bytes_in_force n h) ≡ after_bytes n h) × Clean n (bytes_in_force n h)
   unfolding Clean bytes_in_force after_bytes

@@ -61,8 +61,8 @@ pub in_longest : (m : RecordMark) (n : ℕ) → n ≤ (layout m).most → bytes_
 in_longest m n h =
     omega (arith, leb→le ((layout m).bytes + (layout m).each * (layout m).most) longest_record (sensible m).3, mul-le-mul_left (layout m).each h)
 
-pub count-least : (m : RecordMark) (n : ℕ) → T (count_in m n) → (layout m).least ≤ n
-count-least m n t = leb→le (layout m).least n (T_and (leb (layout m).least n) (leb n (layout m).most) t).0
+pub count_least : (m : RecordMark) (n : ℕ) → T (count_in m n) → (layout m).least ≤ n
+count_least m n t = leb→le (layout m).least n (T_and (leb (layout m).least n) (leb n (layout m).most) t).0
 
 pub count_most : (m : RecordMark) (n : ℕ) → T (count_in m n) → n ≤ (layout m).most
 count_most m n t = leb→le n (layout m).most (T_and (leb (layout m).least n) (leb n (layout m).most) t).1
@@ -72,8 +72,8 @@ module _ (m : RecordMark) (u : (layout m).counted ≡ true) where
   placed : T (leb 2 (layout m).place) × T (eqb (layout m).bytes ((layout m).place + 1))
   placed = T_and (leb 2 (layout m).place) (eqb (layout m).bytes ((layout m).place + 1)) (simp u at (sensible m).4)
 
-  pub count-behind : 2 ≤ (layout m).place
-  count-behind = leb→le 2 (layout m).place placed.0
+  pub count_behind : 2 ≤ (layout m).place
+  count_behind = leb→le 2 (layout m).place placed.0
 
   pub list_behind : (layout m).bytes ≡ (layout m).place + 1
   list_behind = eqb→eq (layout m).bytes ((layout m).place + 1) placed.1

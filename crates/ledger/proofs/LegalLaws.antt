@@ -22,24 +22,24 @@ use Rattle.ledger.specs.Apply.{done, apply}
 use Rattle.ledger.specs.Bytes.{shape, decode, apply_bytes}
 use Rattle.ledger.specs.History.{after_bytes}
 use Rattle.ledger.specs.Legal.{line_below, LegalLine, MarksIn, Named, Legal}
-use Rattle.ledger.proofs.Findings.{passed-front, passed_back, judged_keeps, apply_keeps}
-use Rattle.ledger.proofs.Withdrawal.{marked-add, marked-done}
+use Rattle.ledger.proofs.Findings.{passed_front, passed_back, judged_keeps, apply_keeps}
+use Rattle.ledger.proofs.Withdrawal.{marked_add, marked_done}
 use Rattle.ledger.proofs.RuleLaws.{Brought, brought, LegalNew, owed}
 
 pub literals_append : (ls ks : List Line) → literal_count (ls ++ ks) ≡ literal_count ls + literal_count ks
 literals_append [] ks = omega arith
 literals_append (x ∷ ls) ks = omega (arith, literals_append ls ks)
 
-pub literals-take : (n : ℕ) (ls : List Line) → literal_count (take n ls) ≤ literal_count ls
-literals-take zero ls = omega arith
-literals-take (suc n) [] = omega arith
-literals-take (suc n) (x ∷ ls) = omega (arith, literals-take n ls)
+pub literals_take : (n : ℕ) (ls : List Line) → literal_count (take n ls) ≤ literal_count ls
+literals_take zero ls = omega arith
+literals_take (suc n) [] = omega arith
+literals_take (suc n) (x ∷ ls) = omega (arith, literals_take n ls)
 
 -- ---- the forms that lines name
 
-pub named-all : (n : ℕ) (ls : List Line) (ms : List Mark) → Named n ls ms → T (all (line_below n) ls)
-named-all n ls [] h = h
-named-all n ls (m ∷ ms) h = h.0
+pub named_all : (n : ℕ) (ls : List Line) (ms : List Mark) → Named n ls ms → T (all (line_below n) ls)
+named_all n ls [] h = h
+named_all n ls (m ∷ ms) h = h.0
 
 pub below_more : (n m : ℕ) → n ≤ m → (x : Line) → T (line_below n x) → T (line_below m x)
 below_more n m h x = all_implies (below n) (below m) (λ y t. omega (arith, ltb→lt, lt→ltb)) x.literals
@@ -51,10 +51,10 @@ pub named_more : (n m : ℕ) (ls : List Line) (ms : List Mark) → n ≤ m → N
 named_more n m ls [] h t = names_more n m h ls t
 named_more n m ls (_ ∷ _) h t = (names_more n m h ls t.0, t.1)
 
-pub named-line : (n : ℕ) (ls : List Line) (x : Line) (ms : List Mark) (f : ℕ) → MarksIn f (length ls) ms → Named n ls ms → T (line_below n x)
+pub named_line : (n : ℕ) (ls : List Line) (x : Line) (ms : List Mark) (f : ℕ) → MarksIn f (length ls) ms → Named n ls ms → T (line_below n x)
     → Named n (ls ++ (x ∷ [])) ms
-named-line n ls x [] f k t u = simp (all_append, and-true) (and_T (all (line_below n) ls) (line_below n x) t u)
-named-line n ls x (m ∷ ms) f k t u = (
+named_line n ls x [] f k t u = simp (all_append, and-true) (and_T (all (line_below n) ls) (line_below n x) t u)
+named_line n ls x (m ∷ ms) f k t u = (
   simp (all_append, and-true) (and_T (all (line_below n) ls) (line_below n x) t.0 u),
   rw (take-append-le m.lines ls (x ∷ []) k.1) t.1,
 )
@@ -69,8 +69,8 @@ each_more P xs x d f p i h =
       | no q ↦ rw (get_or_at xs x [] d i (omega (arith, length-append xs (x ∷ [])))) p
     ]
 
-pub legal-more : (k m : ℕ) (x : Line) → k ≤ m → LegalLine k x → LegalLine m x
-legal-more k m x h g =
+pub legal_more : (k m : ℕ) (x : Line) → k ≤ m → LegalLine k x → LegalLine m x
+legal_more k m x h g =
     record {
       origin = g.origin;
       short = g.short;
@@ -78,46 +78,46 @@ legal-more k m x h g =
       names = below_more k m h x g.names;
     }
 
-pub legal-add : (n : ℕ) (l : Ledger) (x : New) → Legal n l → Passed (room l x) → LegalNew n (length l.forms) x → Legal n (add l x)
+pub legal_add : (n : ℕ) (l : Ledger) (x : New) → Legal n l → Passed (room l x) → LegalNew n (length l.forms) x → Legal n (add l x)
 unfolding add room
-legal-add n l (new_form f) g (r, _) w =
+legal_add n l (new_form f) g (r, _) w =
     let more : length (l.forms ++ (f ∷ [])) ≡ length l.forms + 1 = length-append l.forms (f ∷ []) in
     record {
-      few-forms = omega (arith, ltb→lt (length l.forms) most_forms r);
-      few-lines = g.few-lines;
-      few-literals = g.few-literals;
-      few-levels = g.few-levels;
+      few_forms = omega (arith, ltb→lt (length l.forms) most_forms r);
+      few_lines = g.few_lines;
+      few_literals = g.few_literals;
+      few_levels = g.few_levels;
       contents = simp (all_append, and-true) (and_T (all (legal n) l.forms) (legal n f) g.contents w);
-      each = λ i h. legal-more (length l.forms) _ _ (omega arith) (g.each i h);
-      marked = marked-add l (new_form f) g.marked;
+      each = λ i h. legal_more (length l.forms) _ _ (omega arith) (g.each i h);
+      marked = marked_add l (new_form f) g.marked;
       named = named_more (length l.forms) _ l.lines l.marks (omega arith) g.named;
     }
-legal-add n l (new_line x) g (r, (s, _)) w =
+legal_add n l (new_line x) g (r, (s, _)) w =
     record {
-      few-forms = g.few-forms;
-      few-lines = omega (arith, length-append l.lines (x ∷ []), ltb→lt (length l.lines) most_lines r);
-      few-literals = omega (arith, literals_append l.lines (x ∷ []), leb→le (literal_count l.lines + length x.literals) most_literals s);
-      few-levels = g.few-levels;
+      few_forms = g.few_forms;
+      few_lines = omega (arith, length-append l.lines (x ∷ []), ltb→lt (length l.lines) most_lines r);
+      few_literals = omega (arith, literals_append l.lines (x ∷ []), leb→le (literal_count l.lines + length x.literals) most_literals s);
+      few_levels = g.few_levels;
       contents = g.contents;
       each = each_more (LegalLine (length l.forms)) l.lines x no_line g.each w;
-      marked = marked-add l (new_line x) g.marked;
-      named = named-line (length l.forms) l.lines x l.marks _ g.marked g.named w.names;
+      marked = marked_add l (new_line x) g.marked;
+      named = named_line (length l.forms) l.lines x l.marks _ g.marked g.named w.names;
     }
 
 -- ---- one level more, one level less
 
-pub legal-opened : (n : ℕ) (l : Ledger) → Legal n l → length l.marks < most_levels → Legal n (opened l)
+pub legal_opened : (n : ℕ) (l : Ledger) → Legal n l → length l.marks < most_levels → Legal n (opened l)
 unfolding done opened
-legal-opened n l g h =
+legal_opened n l g h =
     record {
-      few-forms = g.few-forms;
-      few-lines = g.few-lines;
-      few-literals = g.few-literals;
-      few-levels = h;
+      few_forms = g.few_forms;
+      few_lines = g.few_lines;
+      few_literals = g.few_literals;
+      few_levels = h;
       contents = g.contents;
       each = g.each;
-      marked = marked-done l OP g.marked;
-      named = (named-all (length l.forms) l.lines l.marks g.named, rw (take-length l.lines) g.named);
+      marked = marked_done l OP g.marked;
+      named = (named_all (length l.forms) l.lines l.marks g.named, rw (take-length l.lines) g.named);
     }
 
 legal_back : (n : ℕ) (fs : List Form) (ls : List Line) (ms : List Mark) → Legal n (record { forms = fs; lines = ls; marks = ms })
@@ -128,12 +128,12 @@ legal_back n fs ls (m ∷ ms) g =
     let (a, b, _) = g.marked in
     let forms = length-take-le m.forms fs a in
     let lines = length-take-le m.lines ls b in
-    let names = named-all m.forms (take m.lines ls) ms g.named.1 in
+    let names = named_all m.forms (take m.lines ls) ms g.named.1 in
     record {
-      few-forms = omega (arith, g.few-forms);
-      few-lines = omega (arith, g.few-lines);
-      few-literals = omega (arith, literals-take m.lines ls, g.few-literals);
-      few-levels = omega (arith, g.few-levels);
+      few_forms = omega (arith, g.few_forms);
+      few_lines = omega (arith, g.few_lines);
+      few_literals = omega (arith, literals_take m.lines ls, g.few_literals);
+      few_levels = omega (arith, g.few_levels);
       contents = all_take (legal n) m.forms fs g.contents;
       each =
           λ i h.
@@ -146,45 +146,45 @@ legal_back n fs ls (m ∷ ms) g =
             ascends = w.ascends;
             names = rw x at (all_at (line_below m.forms) (take m.lines ls) i no_line names h);
           });
-      marked = marked-done (record { forms = fs; lines = ls; marks = m ∷ ms }) WD g.marked;
+      marked = marked_done (record { forms = fs; lines = ls; marks = m ∷ ms }) WD g.marked;
       named = rw forms g.named.1;
     }
 
-pub legal-withdrawn : (n : ℕ) (l : Ledger) → Legal n l → Legal n (withdrawn l)
+pub legal_withdrawn : (n : ℕ) (l : Ledger) → Legal n l → Legal n (withdrawn l)
 unfolding withdrawn
-legal-withdrawn n l g = legal_back n l.forms l.lines l.marks g
+legal_withdrawn n l g = legal_back n l.forms l.lines l.marks g
 
 -- ---- records, bytes, histories
 
-pub legal-done : (n : ℕ) (l : Ledger) (r : Record) → Brought r → Legal n l → Passed (checks n l r) → Legal n (done l r)
+pub legal_done : (n : ℕ) (l : Ledger) (r : Record) → Brought r → Legal n l → Passed (checks n l r) → Legal n (done l r)
 unfolding done checks
-legal-done n l (make r) few g p =
+legal_done n l (make r) few g p =
     let ts = tests n l.forms l.lines r in
-    legal-add n l (makes l.lines r) g (passed_back ts _ p) (owed n l.forms l.lines g.each r few (passed-front ts _ p)).legal
-legal-done n l OP few g p = legal-opened n l g (ltb→lt (length l.marks) most_levels p.0)
-legal-done n l WD few g p = legal-withdrawn n l g
+    legal_add n l (makes l.lines r) g (passed_back ts _ p) (owed n l.forms l.lines g.each r few (passed_front ts _ p)).legal
+legal_done n l OP few g p = legal_opened n l g (ltb→lt (length l.marks) most_levels p.0)
+legal_done n l WD few g p = legal_withdrawn n l g
 
-pub legal-apply : (n : ℕ) (l : Ledger) (r : Record) → Brought r → Legal n l → Legal n (apply n l r).ledger
-legal-apply n l r few g = apply_keeps (Legal n) n l r g (legal-done n l r few g)
+pub legal_apply : (n : ℕ) (l : Ledger) (r : Record) → Brought r → Legal n l → Legal n (apply n l r).ledger
+legal_apply n l r few g = apply_keeps (Legal n) n l r g (legal_done n l r few g)
 
-pub legal-apply_bytes : (n : ℕ) (l : Ledger) (b : List ℕ) → Legal n l → Legal n (apply_bytes n l b).ledger
+pub legal_apply_bytes : (n : ℕ) (l : Ledger) (b : List ℕ) → Legal n l → Legal n (apply_bytes n l b).ledger
 unfolding apply_bytes
-legal-apply_bytes n l b g = judged_keeps (Legal n) (shape b) l (apply n l (decode b)) g (λ p. legal-apply n l (decode b) (brought b p) g)
+legal_apply_bytes n l b g = judged_keeps (Legal n) (shape b) l (apply n l (decode b)) g (λ p. legal_apply n l (decode b) (brought b p) g)
 
-pub legal-fresh : (n : ℕ) → Legal n fresh
-legal-fresh n =
+pub legal_fresh : (n : ℕ) → Legal n fresh
+legal_fresh n =
     record {
-      few-forms = omega arith;
-      few-lines = omega arith;
-      few-literals = omega arith;
-      few-levels = omega arith;
+      few_forms = omega arith;
+      few_lines = omega arith;
+      few_literals = omega arith;
+      few_levels = omega arith;
       contents = tt;
       each = λ i h. absurd (omega arith);
       marked = tt;
       named = tt;
     }
 
-pub legal-after-bytes : (n : ℕ) (h : List (List ℕ)) → Legal n (after_bytes n h)
+pub legal_after_bytes : (n : ℕ) (h : List (List ℕ)) → Legal n (after_bytes n h)
 unfolding after_bytes
-legal-after-bytes n [] = legal-fresh n
-legal-after-bytes n (b ∷ h) = legal-apply_bytes n (after_bytes n h) b (legal-after-bytes n h)
+legal_after_bytes n [] = legal_fresh n
+legal_after_bytes n (b ∷ h) = legal_apply_bytes n (after_bytes n h) b (legal_after_bytes n h)

@@ -26,9 +26,9 @@ use Rattle.ledger.specs.Truth.{line_true}
 use Rattle.ledger.specs.Premises.{lines_true, chosen_true, as_premise, premises_true}
 use Rattle.ints.proofs.Lists.{all_append, all_take}
 use Rattle.ledger.proofs.TruthLaws.{Agree, lines_agree, premises_agree}
-use Rattle.ledger.proofs.Findings.{passed-front, judged_keeps, apply_keeps}
-use Rattle.ledger.proofs.LegalLaws.{named-all, legal-done, legal-fresh}
-use Rattle.ledger.proofs.StandingLaws.{standing-lowest}
+use Rattle.ledger.proofs.Findings.{passed_front, judged_keeps, apply_keeps}
+use Rattle.ledger.proofs.LegalLaws.{named_all, legal_done, legal_fresh}
+use Rattle.ledger.proofs.StandingLaws.{standing_lowest}
 use Rattle.ledger.proofs.RuleLaws.{Owed, owed, parents, Brought, brought}
 
 -- ---- the invariant
@@ -41,8 +41,8 @@ pub record Good (n : ℕ) (l : Ledger) : Type 0 where
   pub legal : Legal n l
   pub sound : Sound l.forms l.lines
 
-good-named : (n : ℕ) (l : Ledger) → Good n l → T (all (line_below (length l.forms)) l.lines)
-good-named n l g = named-all (length l.forms) l.lines l.marks g.legal.named
+good_named : (n : ℕ) (l : Ledger) → Good n l → T (all (line_below (length l.forms)) l.lines)
+good_named n l g = named_all (length l.forms) l.lines l.marks g.legal.named
 
 -- ---- other forms
 
@@ -79,7 +79,7 @@ sound_add : (n : ℕ) (l : Ledger) (is : List ℕ) (x : New) → Good n l → Ow
 unfolding add
 sound_add n l is (new_form f) g o =
     sound_agree l.forms (l.forms ++ (f ∷ [])) (length l.forms) l.lines
-    (λ i h. sym (get_or-append l.forms (f ∷ []) no_form i h)) (good-named n l g) g.sound
+    (λ i h. sym (get_or-append l.forms (f ∷ []) no_form i h)) (good_named n l g) g.sound
 sound_add n l is (new_line x) g o =
     sound_line l.forms l.lines x g.sound (λ ρ h. o.holds ρ (chosen_true_lem ρ l.forms l.lines h is o.parents))
 
@@ -95,45 +95,45 @@ sound_back : (n : ℕ) (fs : List Form) (ls : List Line) (ms : List Mark)
 sound_back n fs ls [] g = g.sound
 sound_back n fs ls (m ∷ ms) g =
     sound_agree fs (take m.forms fs) m.forms (take m.lines ls) (λ i h. sym (get_or-take m.forms fs i no_form h))
-    (named-all m.forms (take m.lines ls) ms g.legal.named.1) (sound_take fs ls m.lines g.sound)
+    (named_all m.forms (take m.lines ls) ms g.legal.named.1) (sound_take fs ls m.lines g.sound)
 
 sound_done : (n : ℕ) (l : Ledger) (r : Record) → Brought r → Passed (checks n l r) → Good n l → Sound (done l r).forms (done l r).lines
 unfolding done checks opened withdrawn
 sound_done n l (make r) few p g =
     let ts = tests n l.forms l.lines r in
-    sound_add n l (parents r) (makes l.lines r) g (owed n l.forms l.lines g.legal.each r few (passed-front ts _ p))
+    sound_add n l (parents r) (makes l.lines r) g (owed n l.forms l.lines g.legal.each r few (passed_front ts _ p))
 sound_done n l OP few p g = g.sound
 sound_done n l WD few p g = sound_back n l.forms l.lines l.marks g
 
 pub good_apply : (n : ℕ) (l : Ledger) (r : Record) → Brought r → Good n l → Good n (apply n l r).ledger
-good_apply n l r few g = apply_keeps (Good n) n l r g (λ p. record { legal = legal-done n l r few g.legal p; sound = sound_done n l r few p g })
+good_apply n l r few g = apply_keeps (Good n) n l r g (λ p. record { legal = legal_done n l r few g.legal p; sound = sound_done n l r few p g })
 
-pub good-apply_bytes : (n : ℕ) (l : Ledger) (b : List ℕ) → Good n l → Good n (apply_bytes n l b).ledger
+pub good_apply_bytes : (n : ℕ) (l : Ledger) (b : List ℕ) → Good n l → Good n (apply_bytes n l b).ledger
 unfolding apply_bytes
-good-apply_bytes n l b g = judged_keeps (Good n) (shape b) l (apply n l (decode b)) g (λ p. good_apply n l (decode b) (brought b p) g)
+good_apply_bytes n l b g = judged_keeps (Good n) (shape b) l (apply n l (decode b)) g (λ p. good_apply n l (decode b) (brought b p) g)
 
 -- ---- histories
 
-pub good-after-bytes : (n : ℕ) (h : List (List ℕ)) → Good n (after_bytes n h)
+pub good_after_bytes : (n : ℕ) (h : List (List ℕ)) → Good n (after_bytes n h)
 unfolding after_bytes
-good-after-bytes n [] = record { legal = legal-fresh n; sound = λ k ρ p. rw take-nil tt }
-good-after-bytes n (b ∷ h) = good-apply_bytes n (after_bytes n h) b (good-after-bytes n h)
+good_after_bytes n [] = record { legal = legal_fresh n; sound = λ k ρ p. rw take-nil tt }
+good_after_bytes n (b ∷ h) = good_apply_bytes n (after_bytes n h) b (good_after_bytes n h)
 
 -- ---- what it says of lines, and of an empty line
 
 module _ (n : ℕ) (l : Ledger) (g : Good n l) where
-  pub good-line-true : (i : ℕ) (ρ : Integers) → i < length l.lines → T (premises_true ρ l.forms (take (suc i) l.lines))
+  pub good_line_true : (i : ℕ) (ρ : Integers) → i < length l.lines → T (premises_true ρ l.forms (take (suc i) l.lines))
       → T (line_true ρ l.forms (get_or l.lines i no_line))
-  good-line-true i ρ h p =
+  good_line_true i ρ h p =
       rw (get_or-take (suc i) l.lines i no_line (omega arith)) at
       (all_at (line_true ρ l.forms) (take (suc i) l.lines) i no_line (g.sound (suc i) ρ p) (rw length-take (omega arith)))
 
-  pub good-refuted : (i : ℕ) → standing l ≡ refuted i → (ρ : Integers) → T (premises_true ρ l.forms l.lines) → ⊥
-  good-refuted i e ρ p =
-      let (inside, empty, _) = standing-lowest l i e in
-      rw empty at (good-line-true i ρ inside (all_take (as_premise ρ l.forms) (suc i) l.lines p))
+  pub good_refuted : (i : ℕ) → standing l ≡ refuted i → (ρ : Integers) → T (premises_true ρ l.forms l.lines) → ⊥
+  good_refuted i e ρ p =
+      let (inside, empty, _) = standing_lowest l i e in
+      rw empty at (good_line_true i ρ inside (all_take (as_premise ρ l.forms) (suc i) l.lines p))
 
 module _ (n : ℕ) where
-  pub refuted-by-bytes : (h : List (List ℕ)) (i : ℕ) → standing (after_bytes n h) ≡ refuted i
+  pub refuted_by_bytes : (h : List (List ℕ)) (i : ℕ) → standing (after_bytes n h) ≡ refuted i
       → (ρ : Integers) → T (premises_true ρ (after_bytes n h).forms (after_bytes n h).lines) → ⊥
-  refuted-by-bytes h = good-refuted n (after_bytes n h) (good-after-bytes n h)
+  refuted_by_bytes h = good_refuted n (after_bytes n h) (good_after_bytes n h)

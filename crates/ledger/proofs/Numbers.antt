@@ -18,21 +18,21 @@ use Rattle.ledger.specs.Checks.{Check, ◌else◌, checks}
 use Rattle.ledger.specs.Apply.{Finding, pass, fail, finding, judged, apply, done, made}
 use Rattle.ledger.specs.Bytes.{Bearing, unknown, bears, mark_of, shape_of, shape, decode, apply_bytes}
 use Rattle.ledger.specs.Numbers.{shape_order, record_order, follow, Given, earlier, fails_with, FirstOf}
-use Rattle.ledger.proofs.RuleLaws.{checks-follow}
-use Rattle.ledger.proofs.Findings.{passed→pass, pass_append, fail_append, finding-number, by-checks}
+use Rattle.ledger.proofs.RuleLaws.{checks_follow}
+use Rattle.ledger.proofs.Findings.{passed→pass, pass_append, fail_append, finding_number, by_checks}
 
 -- ---- tests that follow an order
 
-pub follow-later : (n : ℕ) (ns : List ℕ) (cs : List Check) → T (follow ns cs) → T (follow (n ∷ ns) cs)
+pub follow_later : (n : ℕ) (ns : List ℕ) (cs : List Check) → T (follow ns cs) → T (follow (n ∷ ns) cs)
 unfolding follow
-follow-later n ns [] t = tt
-follow-later n ns (c ∷ cs) t = or_right (eqb c.number n && follow (n ∷ ns) cs) (follow ns (c ∷ cs)) t
+follow_later n ns [] t = tt
+follow_later n ns (c ∷ cs) t = or_right (eqb c.number n && follow (n ∷ ns) cs) (follow ns (c ∷ cs)) t
 
 pub follow_append : (ns ms : List ℕ) (cs ds : List Check) → T (follow ns cs) → T (follow ms ds) → T (follow (ns ++ ms) (cs ++ ds))
 unfolding follow
 follow_append [] ms [] ds t u = u
 follow_append [] ms (c ∷ cs) ds t u = absurd t
-follow_append (n ∷ ns) ms [] ds t u = follow-later n (ns ++ ms) ds (follow_append ns ms [] ds tt u)
+follow_append (n ∷ ns) ms [] ds t u = follow_later n (ns ++ ms) ds (follow_append ns ms [] ds tt u)
 follow_append (n ∷ ns) ms (c ∷ cs) ds t u =
     let same = eqb c.number n in
     let more = follow (n ∷ (ns ++ ms)) (cs ++ ds) in
@@ -60,14 +60,14 @@ follow_in (n ∷ ns) (c ∷ cs) t =
 
 -- so that no other is given
 pub number_in : (ns : List ℕ) (cs : List Check) {k : ℕ} → T (follow ns cs) → finding cs ≡ fail k → T (holds k ns)
-number_in ns cs t = finding-number (λ k. holds k ns) cs (follow_in ns cs t)
+number_in ns cs t = finding_number (λ k. holds k ns) cs (follow_in ns cs t)
 
 -- a number of the order passes what all of them pass
-pub holds-all : (p : ℕ → Bool) (ns : List ℕ) (k : ℕ) → T (all p ns) → T (holds k ns) → T (p k)
-holds-all p [] k t h = absurd h
-holds-all p (n ∷ ns) k t h =
+pub holds_all : (p : ℕ → Bool) (ns : List ℕ) (k : ℕ) → T (all p ns) → T (holds k ns) → T (p k)
+holds_all p [] k t h = absurd h
+holds_all p (n ∷ ns) k t h =
     let (first, others) = T_and (p n) (all p ns) t in
-    elim (T-or (eqb k n) (holds k ns) h) [ inl i ↦ rw (eqb→eq k n i) first | inr i ↦ holds-all p ns k others i ]
+    elim (T-or (eqb k n) (holds k ns) h) [ inl i ↦ rw (eqb→eq k n i) first | inr i ↦ holds_all p ns k others i ]
 
 -- ---- the number given
 
@@ -101,11 +101,11 @@ given_exactly k cs = (given_found k cs, found_given k cs)
 
 -- ---- the number given by the order alone
 
-any-all : {A : Type 0} (p q : A → Bool) → ((x : A) → T (p x) → T (q x) → ⊥) → (xs : List A) → T (any p xs) → T (all q xs) → ⊥
-any-all p q f [] s t = s
-any-all p q f (x ∷ xs) s t =
+any_all : {A : Type 0} (p q : A → Bool) → ((x : A) → T (p x) → T (q x) → ⊥) → (xs : List A) → T (any p xs) → T (all q xs) → ⊥
+any_all p q f [] s t = s
+any_all p q f (x ∷ xs) s t =
     let (h, rest) = T_and (q x) (all q xs) t in
-    elim (T-or (p x) (any p xs) s) [ inl k ↦ f x k h | inr k ↦ any-all p q f xs k rest ]
+    elim (T-or (p x) (any p xs) s) [ inl k ↦ f x k h | inr k ↦ any_all p q f xs k rest ]
 
 all_pass : {A : Type 0} (p : A → Bool) → ((x : A) → T (p x)) → (xs : List A) → T (all p xs)
 all_pass p f [] = tt
@@ -116,13 +116,13 @@ abbrev as_earlier : List ℕ → ℕ → Check → Bool
 as_earlier ns k c = not (holds c.number (earlier k ns)) || c.passes
 
 module _ (n : ℕ) (ns : List ℕ) (k : ℕ) where
-  none-earlier : eqb n k ≡ true → (c : Check) → T (as_earlier (n ∷ ns) k c)
+  none_earlier : eqb n k ≡ true → (c : Check) → T (as_earlier (n ∷ ns) k c)
   unfolding earlier
-  none-earlier e c = simp e tt
+  none_earlier e c = simp e tt
 
-  first-earlier : eqb n k ≡ false → (c : Check) → c.number ≡ n → as_earlier (n ∷ ns) k c ≡ c.passes
+  first_earlier : eqb n k ≡ false → (c : Check) → c.number ≡ n → as_earlier (n ∷ ns) k c ≡ c.passes
   unfolding earlier
-  first-earlier e c same = simp (e, same, T→true (eqb n n) (eqb_refl n))
+  first_earlier e c same = simp (e, same, T→true (eqb n n) (eqb_refl n))
 
   -- a test with the first number of the order, before the others
   module _ (c : Check) (cs : List Check) (same : c.number ≡ n) (rest : finding cs ≡ fail k ↔ FirstOf (n ∷ ns) k cs) where
@@ -159,7 +159,7 @@ module _ (n : ℕ) (ns : List ℕ) (k : ℕ) where
             let first : eqb n k ≡ true = T→true (eqb n k) (rw (sym same ∙ is) (eqb_refl k)) in
             record {
               fails = or_left (fails_with k c) (any (fails_with k) cs) (rw (is, p, T→true (eqb k k) (eqb_refl k)) tt);
-              passed = all_pass (as_earlier (n ∷ ns) k) (none-earlier first) (c ∷ cs);
+              passed = all_pass (as_earlier (n ∷ ns) k) (none_earlier first) (c ∷ cs);
             }
 
         from : FirstOf (n ∷ ns) k (c ∷ cs) → fail c.number ≡ fail k
@@ -167,7 +167,7 @@ module _ (n : ℕ) (ns : List ℕ) (k : ℕ) where
           where
             go : (b : Bool) → eqb n k ≡ b → fail c.number ≡ fail k
             go true e = ap fail (same ∙ eqb→eq n k (true→T e))
-            go false e = absurd (rw (first-earlier e c same, p) at (T_and (as_earlier (n ∷ ns) k c) others g.passed).0)
+            go false e = absurd (rw (first_earlier e c same, p) at (T_and (as_earlier (n ∷ ns) k c) others g.passed).0)
 
     first_here : finding (c ∷ cs) ≡ fail k ↔ FirstOf (n ∷ ns) k (c ∷ cs)
     unfolding finding
@@ -179,18 +179,18 @@ module _ (n : ℕ) (ns : List ℕ) (k : ℕ) where
 
   -- no test has the first number of the order
   module _ (cs : List Check) (new : T (not (holds n ns))) (known : T (all (λ c. holds c.number ns) cs)) where
-    none-known : n ≡ k → T (any (fails_with k) cs) → ⊥
-    none-known e s =
-        any-all (fails_with k) (λ c. holds c.number ns)
+    none_known : n ≡ k → T (any (fails_with k) cs) → ⊥
+    none_known e s =
+        any_all (fails_with k) (λ c. holds c.number ns)
         (λ c f t.
         let is = eqb→eq c.number k (T_and (eqb c.number k) (not c.passes) f).0 in
         let there : T (holds n ns) = rw (e ∙ sym is) t in
         absurd (rw (T→true (holds n ns) there) at new))
         cs s known
 
-    same-earlier : eqb n k ≡ false → all (as_earlier (n ∷ ns) k) cs ≡ all (as_earlier ns k) cs
+    same_earlier : eqb n k ≡ false → all (as_earlier (n ∷ ns) k) cs ≡ all (as_earlier ns k) cs
     unfolding earlier
-    same-earlier e = all_agree (λ c. holds c.number ns) (as_earlier (n ∷ ns) k) (as_earlier ns k) same cs known
+    same_earlier e = all_agree (λ c. holds c.number ns) (as_earlier (n ∷ ns) k) (as_earlier ns k) same cs known
       where
         same : (c : Check) → T (holds c.number ns) → as_earlier (n ∷ ns) k c ≡ as_earlier ns k c
         same c t = go (eqb c.number n) refl
@@ -199,16 +199,16 @@ module _ (n : ℕ) (ns : List ℕ) (k : ℕ) where
             go true f = absurd (rw (← eqb→eq c.number n (true→T f), T→true (holds c.number ns) t) at new)
             go false f = rw (e, cond, f)
 
-    first-later : {P : Type 0} → (P ↔ FirstOf ns k cs) → (P ↔ FirstOf (n ∷ ns) k cs)
-    first-later {P} (to, from) = go (eqb n k) refl
+    first_later : {P : Type 0} → (P ↔ FirstOf ns k cs) → (P ↔ FirstOf (n ∷ ns) k cs)
+    first_later {P} (to, from) = go (eqb n k) refl
       where
         go : (b : Bool) → eqb n k ≡ b → (P ↔ FirstOf (n ∷ ns) k cs)
         go true e =
             let is = eqb→eq n k (true→T e) in
-            (λ p. absurd (none-known is (to p).fails), λ g. absurd (none-known is g.fails))
+            (λ p. absurd (none_known is (to p).fails), λ g. absurd (none_known is g.fails))
         go false e = (
-          λ p. record { fails = (to p).fails; passed = rw (same-earlier e) (to p).passed },
-          λ g. from (record { fails = g.fails; passed = rw (same-earlier e) at g.passed }),
+          λ p. record { fails = (to p).fails; passed = rw (same_earlier e) (to p).passed },
+          λ g. from (record { fails = g.fails; passed = rw (same_earlier e) at g.passed }),
         )
 
 -- no number stands twice
@@ -227,30 +227,30 @@ first_exactly (n ∷ ns) k d (c ∷ cs) t =
       | inl h ↦
           let (e, rest) = T_and (eqb c.number n) (follow (n ∷ ns) cs) h in
           first_here n ns k c cs (eqb→eq c.number n e) (first_exactly (n ∷ ns) k d cs rest)
-      | inr h ↦ first-later n ns k (c ∷ cs) new (follow_in ns (c ∷ cs) h) (first_exactly ns k others (c ∷ cs) h)
+      | inr h ↦ first_later n ns k (c ∷ cs) new (follow_in ns (c ∷ cs) h) (first_exactly ns k others (c ∷ cs) h)
     ]
 
 -- ---- what is refused, by its tests
 
-judged-number : (f : Finding) (l d : Ledger) (m : Made) (k : ℕ) → (judged f l (record { answer = accepted m; ledger = d })).answer ≡ refused k ↔ f ≡ fail k
-judged-number pass l d m k = (λ e. cc, λ e. cc)
-judged-number (fail i) l d m k = (λ e. cc, λ e. cc)
+judged_number : (f : Finding) (l d : Ledger) (m : Made) (k : ℕ) → (judged f l (record { answer = accepted m; ledger = d })).answer ≡ refused k ↔ f ≡ fail k
+judged_number pass l d m k = (λ e. cc, λ e. cc)
+judged_number (fail i) l d m k = (λ e. cc, λ e. cc)
 
 -- ---- a record
 
 module _ (n : ℕ) (l : Ledger) (r : Record) (k : ℕ) where
   pub apply_found : (apply n l r).answer ≡ refused k ↔ finding (checks n l r) ≡ fail k
-  apply_found = rw (by-checks n l r) (judged-number (finding (checks n l r)) l (done l r) (made l r) k)
+  apply_found = rw (by_checks n l r) (judged_number (finding (checks n l r)) l (done l r) (made l r) k)
 
-  pub record-given : (apply n l r).answer ≡ refused k ↔ FirstOf record_order k (checks n l r)
+  pub record_given : (apply n l r).answer ≡ refused k ↔ FirstOf record_order k (checks n l r)
   unfolding distinct
-  record-given = Iff.trans apply_found (first_exactly record_order k tt (checks n l r) (checks-follow n l r))
+  record_given = Iff.trans apply_found (first_exactly record_order k tt (checks n l r) (checks_follow n l r))
 
 -- ---- bytes
 
-pub shape-follow : (b : List ℕ) → T (follow shape_order (shape b))
+pub shape_follow : (b : List ℕ) → T (follow shape_order (shape b))
 unfolding follow shape
-shape-follow b = go (mark_of b)
+shape_follow b = go (mark_of b)
   where
     go : (m : Bearing) → T (follow shape_order ((leb 2 (length b) else 3) ∷ shape_of b m))
     go unknown = tt
@@ -260,8 +260,8 @@ module _ (n : ℕ) (l : Ledger) (b : List ℕ) where
   abbrev pub byte_tests : List Check
   byte_tests = shape b ++ checks n l (decode b)
 
-  pub bytes-follow : T (follow (shape_order ++ record_order) byte_tests)
-  bytes-follow = follow_append shape_order record_order (shape b) (checks n l (decode b)) (shape-follow b) (checks-follow n l (decode b))
+  pub bytes_follow : T (follow (shape_order ++ record_order) byte_tests)
+  bytes_follow = follow_append shape_order record_order (shape b) (checks n l (decode b)) (shape_follow b) (checks_follow n l (decode b))
 
   -- the tests of the shape and then those of the record, in one list
   pub by_tests : apply_bytes n l b ≡ judged (finding byte_tests) l (record { answer = accepted (made l (decode b)); ledger = done l (decode b) })
@@ -270,8 +270,8 @@ module _ (n : ℕ) (l : Ledger) (b : List ℕ) where
     where
       by : (f : Finding) → finding (shape b) ≡ f
           → judged f l (apply n l (decode b)) ≡ judged (finding byte_tests) l (record { answer = accepted (made l (decode b)); ledger = done l (decode b) })
-      by pass e = rw (pass_append (shape b) (checks n l (decode b)) e) (by-checks n l (decode b))
+      by pass e = rw (pass_append (shape b) (checks n l (decode b)) e) (by_checks n l (decode b))
       by (fail k) e = rw (fail_append (shape b) (checks n l (decode b)) k e)
 
   pub bytes_found : (k : ℕ) → (apply_bytes n l b).answer ≡ refused k ↔ finding byte_tests ≡ fail k
-  bytes_found k = rw by_tests (judged-number (finding byte_tests) l (done l (decode b)) (made l (decode b)) k)
+  bytes_found k = rw by_tests (judged_number (finding byte_tests) l (done l (decode b)) (made l (decode b)) k)

@@ -10,16 +10,16 @@ use lib.ListN.{length, get_or, length-map}
 use Rattle.ints.specs.Tests.{eq_z, different}
 use Rattle.ints.proofs.Bools.{T_and, and_T}
 use Rattle.ints.proofs.Lists.{all_at, all_from}
-use Rattle.ints.proofs.Order.{eq_z→eq, eq_z-refl}
+use Rattle.ints.proofs.Order.{eq_z→eq, eq_z_refl}
 use Rattle.rows.specs.Row.{shifted}
 use Rattle.rows.specs.Form.{Form, is_divided}
 use Rattle.rows.specs.Conditions.{divided_by}
-use Rattle.rows.proofs.Remainders.{neighbours_differ, neighbours-some, neighbours_say, neighbours-from}
+use Rattle.rows.proofs.Remainders.{neighbours_differ, neighbours_some, neighbours_say, neighbours_from_lem}
 use Rattle.ledger.specs.Literals.{unnegated, ascending, holds, line_of}
 use Rattle.ledger.specs.Ledger.{Line, nth_form, nth_row, New, new_form, new_line}
 use Rattle.ledger.specs.Record.{AR}
 use Rattle.ledger.specs.Checks.{form_in, derived_line, makes, tests, Passed}
-use Rattle.ledger.proofs.LiteralLaws.{any-line_of, ascending-line_of, length-line_of-different, different-unnegated}
+use Rattle.ledger.proofs.LiteralLaws.{any_line_of, ascending_line_of, length_line_of_different, different_unnegated}
 
 abbrev literals_of : New → List ℕ
 literals_of (new_form f) = []
@@ -52,7 +52,7 @@ module _ (n : ℕ) (fs : List Form) (ls : List Line) (gs : List ℕ) where
 
       given : Passed (tests n fs ls (AR gs)) → Asked
       given (names, (kinds, (rows, _))) = (
-        neighbours-some (nth_row fs) gs rows,
+        neighbours_some (nth_row fs) gs rows,
         λ i l.
             let (kind, divisor) = T_and (eq_z (nth_form fs (get_or gs i 0)).kind is_divided) _ (all_at divided gs i 0 kinds l) in (
               ltb→lt _ _ (all_at (form_in fs) gs i 0 names l),
@@ -67,8 +67,8 @@ module _ (n : ℕ) (fs : List Form) (ls : List Line) (gs : List ℕ) where
         all_from (form_in fs) gs 0 (λ i l. lt→ltb _ _ (each i l).0),
         (
           all_from divided gs 0
-              (λ i l. and_T (eq_z (nth_form fs (get_or gs i 0)).kind is_divided) _ (rw (each i l).1 tt) (rw (each i l).2 (eq_z-refl (pos (length gs))))),
-          (neighbours-from (nth_row fs) gs some (λ i h l. (each i l).3 h), tt),
+              (λ i l. and_T (eq_z (nth_form fs (get_or gs i 0)).kind is_divided) _ (rw (each i l).1 tt) (rw (each i l).2 (eq_z_refl (pos (length gs))))),
+          (neighbours_from_lem (nth_row fs) gs some (λ i h l. (each i l).3 h), tt),
         ),
       )
 
@@ -85,7 +85,7 @@ module _ (n : ℕ) (fs : List Form) (ls : List Line) (gs : List ℕ) where
       let line = map unnegated gs in
       let same : xs ≡ line_of line = sym (ap (λ (y : New). literals_of y) e) in
       rw same (
-        length-line_of-different line (different-unnegated gs (remainders_differ p)) ∙ length-map gs unnegated,
-        ascending-line_of line,
-        λ x. any-line_of (eqb x) line,
+        length_line_of_different line (different_unnegated gs (remainders_differ p)) ∙ length-map gs unnegated,
+        ascending_line_of line,
+        λ x. any_line_of (eqb x) line,
       )

@@ -10,7 +10,7 @@ use lib.IntN.{pos}
 use lib.ListN.{length, get_or, length-map}
 use lib.Signed.{le_z, le_z_yes}
 use Rattle.ints.specs.Tests.{all, any}
-use Rattle.ints.proofs.Lists.{length-up_to}
+use Rattle.ints.proofs.Lists.{length_up_to}
 use Rattle.ints.proofs.Bools.{T_and, and_T, or_left, or_right}
 use Rattle.rows.specs.Limits.{largest_multiplier}
 use Rattle.rows.specs.Form.{Form, legal}
@@ -30,31 +30,31 @@ use Rattle.ledger.proofs.LayoutLaws.{count_most}
 use Rattle.ledger.specs.Legal.{LegalLine}
 use Rattle.ledger.specs.Truth.{literal_true, line_true}
 use Rattle.ledger.specs.Premises.{chosen_true, as_premise}
-use Rattle.ints.proofs.Lists.{all_map, any-map}
-use Rattle.ledger.proofs.LiteralLaws.{any-joined, any-line_of, any-without, all-joined, all-line_of, all_without}
-use Rattle.ledger.proofs.LiteralLaws.{ascending-joined, ascending-line_of, ascending-without, ascending-negated, length-line_of}
-use Rattle.ledger.proofs.TruthLaws.{unnegated-names, negated-names, unnegated-true, negated-true}
+use Rattle.ints.proofs.Lists.{all_map, any_map}
+use Rattle.ledger.proofs.LiteralLaws.{any_joined, any_line_of, any_without, all_joined, all_line_of, all_without}
+use Rattle.ledger.proofs.LiteralLaws.{ascending_joined, ascending_line_of, ascending_without, ascending_negated, length_line_of}
+use Rattle.ledger.proofs.TruthLaws.{unnegated_names, negated_names, unnegated_true, negated_true}
 
 -- ---- in which order its tests stand
 
-pub checks-follow : (n : ℕ) (l : Ledger) (r : Record) → T (follow record_order (checks n l r))
+pub checks_follow : (n : ℕ) (l : Ledger) (r : Record) → T (follow record_order (checks n l r))
 unfolding follow checks
-checks-follow n l (make (FM f)) = tt
-checks-follow n l (make (PM xs)) = tt
-checks-follow n l (make (RS p i j)) = tt
-checks-follow n l (make (FK ts)) = tt
-checks-follow n l (make (TO a b)) = tt
-checks-follow n l (make (TR z u v)) = tt
-checks-follow n l (make (EQ z a)) = tt
-checks-follow n l (make (TI a b c)) = tt
-checks-follow n l (make (WK z g)) = tt
-checks-follow n l (make (CL ts)) = tt
-checks-follow n l (make (AR gs)) = tt
-checks-follow n l (make (LF g h)) = tt
-checks-follow n l (make (SU g h k)) = tt
-checks-follow n l (make (SD g h k)) = tt
-checks-follow n l OP = tt
-checks-follow n l WD = tt
+checks_follow n l (make (FM f)) = tt
+checks_follow n l (make (PM xs)) = tt
+checks_follow n l (make (RS p i j)) = tt
+checks_follow n l (make (FK ts)) = tt
+checks_follow n l (make (TO a b)) = tt
+checks_follow n l (make (TR z u v)) = tt
+checks_follow n l (make (EQ z a)) = tt
+checks_follow n l (make (TI a b c)) = tt
+checks_follow n l (make (WK z g)) = tt
+checks_follow n l (make (CL ts)) = tt
+checks_follow n l (make (AR gs)) = tt
+checks_follow n l (make (LF g h)) = tt
+checks_follow n l (make (SU g h k)) = tt
+checks_follow n l (make (SD g h k)) = tt
+checks_follow n l OP = tt
+checks_follow n l WD = tt
 
 -- ---- what it lists and draws on
 
@@ -90,16 +90,16 @@ brought b p = go (mark_of b) p.1
     go (bears op) q = tt
     go (bears wd) q = tt
     go (bears (of_rule fm)) q = omega arith
-    go (bears (of_rule pm)) q = rw length-up_to (count_most (of_rule pm) (count_from (of_rule pm) b) q.1.1.0)
+    go (bears (of_rule pm)) q = rw length_up_to (count_most (of_rule pm) (count_from (of_rule pm) b) q.1.1.0)
     go (bears (of_rule rs)) q = omega arith
-    go (bears (of_rule fk)) q = rw length-up_to (count_most (of_rule fk) (count_from (of_rule fk) b) q.1.1.0)
+    go (bears (of_rule fk)) q = rw length_up_to (count_most (of_rule fk) (count_from (of_rule fk) b) q.1.1.0)
     go (bears (of_rule to)) q = omega arith
     go (bears (of_rule tr)) q = omega arith
     go (bears (of_rule eq)) q = omega arith
     go (bears (of_rule ti)) q = omega arith
     go (bears (of_rule wk)) q = omega arith
-    go (bears (of_rule cl)) q = rw length-up_to (count_most (of_rule cl) (count_from (of_rule cl) b) q.1.1.0)
-    go (bears (of_rule ar)) q = rw length-up_to (count_most (of_rule ar) (count_from (of_rule ar) b) q.1.1.0)
+    go (bears (of_rule cl)) q = rw length_up_to (count_most (of_rule cl) (count_from (of_rule cl) b) q.1.1.0)
+    go (bears (of_rule ar)) q = rw length_up_to (count_most (of_rule ar) (count_from (of_rule ar) b) q.1.1.0)
     go (bears (of_rule lf)) q = omega arith
     go (bears (of_rule su)) q = omega arith
     go (bears (of_rule sd)) q = omega arith
@@ -151,12 +151,12 @@ module _ (n : ℕ) (fs : List Form) (ls : List Line) where
         legal =
             record {
               origin = tt;
-              short = omega (arith, length-line_of xs);
-              ascends = ascending-line_of xs;
-              names = all-line_of (below (length fs)) xs names;
+              short = omega (arith, length_line_of xs);
+              ascends = ascending_line_of xs;
+              names = all_line_of (below (length fs)) xs names;
             };
         parents = tt;
-        holds = λ ρ _ _. rw (any-line_of (literal_true ρ fs) xs) (is_true ρ);
+        holds = λ ρ _ _. rw (any_line_of (literal_true ρ fs) xs) (is_true ρ);
       }
 
   pair_owed : (x y : ℕ) → T (below (length fs) x) → T (below (length fs) y) → ((ρ : Integers) → T (literal_true ρ fs x || literal_true ρ fs y))
@@ -174,11 +174,11 @@ module _ (n : ℕ) (fs : List Form) (ls : List Line) where
             record {
               origin = tt;
               short = simp length-map few;
-              ascends = ascending-negated (forms_of ts) ascends;
-              names = rw (all_map (below (length fs)) negated (forms_of ts)) (simp negated-names names);
+              ascends = ascending_negated (forms_of ts) ascends;
+              names = rw (all_map (below (length fs)) negated (forms_of ts)) (simp negated_names names);
             };
         parents = tt;
-        holds = λ ρ _ _. simp (any-map, negated-true) (is_true ρ);
+        holds = λ ρ _ _. simp (any_map, negated_true) (is_true ρ);
       }
 
   resolvent_owed : (p i j : ℕ) → T (line_in ls i) → T (line_in ls j) → T (leb (length (resolvent ls p i j)) longest_line)
@@ -190,16 +190,16 @@ module _ (n : ℕ) (fs : List Form) (ls : List Line) where
               origin = tt;
               short = leb→le _ longest_line short;
               ascends =
-                  ascending-joined first second (ascending-without (unnegated p) (nth_line ls i) legal_i.ascends)
-                  (ascending-without (negated p) (nth_line ls j) legal_j.ascends);
+                  ascending_joined first second (ascending_without (unnegated p) (nth_line ls i) legal_i.ascends)
+                  (ascending_without (negated p) (nth_line ls j) legal_j.ascends);
               names =
-                  all-joined b first second (all_without b (unnegated p) (nth_line ls i) legal_i.names)
+                  all_joined b first second (all_without b (unnegated p) (nth_line ls i) legal_i.names)
                   (all_without b (negated p) (nth_line ls j) legal_j.names);
             };
         parents = and_T (line_in ls i) (line_in ls j && true) i_in (and_T (line_in ls j) true j_in tt);
         holds =
             λ ρ h _.
-            rw (any-joined (literal_true ρ fs) first second)
+            rw (any_joined (literal_true ρ fs) first second)
             (one_stays ρ (form_true ρ (nth_form fs p)) refl (both ρ h).0 (T_and (is_true ρ j) true (both ρ h).1).0);
       }
     where
@@ -229,10 +229,10 @@ module _ (n : ℕ) (fs : List Form) (ls : List Line) where
           → T (any (literal_true ρ fs) (nth_line ls j)) → T (any (literal_true ρ fs) first || any (literal_true ρ fs) second)
       one_stays ρ true e u v =
           or_right (any (literal_true ρ fs) first) (any (literal_true ρ fs) second)
-          (rw (any-without (literal_true ρ fs) (negated p) (nth_line ls j) (negated-true ρ fs p ∙ ap not e)) v)
+          (rw (any_without (literal_true ρ fs) (negated p) (nth_line ls j) (negated_true ρ fs p ∙ ap not e)) v)
       one_stays ρ false e u v =
           or_left (any (literal_true ρ fs) first) (any (literal_true ρ fs) second)
-          (rw (any-without (literal_true ρ fs) (unnegated p) (nth_line ls i) (unnegated-true ρ fs p ∙ e)) u)
+          (rw (any_without (literal_true ρ fs) (unnegated p) (nth_line ls i) (unnegated_true ρ fs p ∙ e)) u)
 
 module _ (n : ℕ) (fs : List Form) (ls : List Line) (each : LegalLines (length fs) ls) where
   pub owed : (r : Rule) → Brought (make r) → Passed (tests n fs ls r) → Owed n fs ls (parents r) (makes ls r)
@@ -248,35 +248,35 @@ module _ (n : ℕ) (fs : List Form) (ls : List Line) (each : LegalLines (length 
   owed (FK ts) few (names, (ascends, (kinds, (multipliers, (sum, _))))) =
       negated_owed n fs ls ts few names ascends (λ ρ. farkas_sound ρ n (nth_form fs) ts kinds multipliers sum)
   owed (TO a b) few (a_in, (b_in, (ka, (kb, (row, _))))) =
-      pair_owed n fs ls (unnegated a) (unnegated b) (rw unnegated-names a_in) (rw unnegated-names b_in)
-      (λ ρ. simp unnegated-true (totality ρ (nth_form fs a) (nth_form fs b) ka kb row))
+      pair_owed n fs ls (unnegated a) (unnegated b) (rw unnegated_names a_in) (rw unnegated_names b_in)
+      (λ ρ. simp unnegated_true (totality ρ (nth_form fs a) (nth_form fs b) ka kb row))
   owed (TR z u v) few (z_in, (u_in, (v_in, (kz, (ku, (kv, (more, (less, _)))))))) =
       let b = form_in fs in
       let names = and_T (b z) (b u && (b v && true)) z_in (and_T (b u) (b v && true) u_in (and_T (b v) true v_in tt)) in
-      line_owed n fs ls (unnegated z ∷ unnegated u ∷ unnegated v ∷ []) (omega arith) (simp unnegated-names names)
-      (λ ρ. simp (unnegated-true, or-false) (trichotomy ρ (nth_form fs z) (nth_form fs u) (nth_form fs v) kz ku kv more less))
+      line_owed n fs ls (unnegated z ∷ unnegated u ∷ unnegated v ∷ []) (omega arith) (simp unnegated_names names)
+      (λ ρ. simp (unnegated_true, or-false) (trichotomy ρ (nth_form fs z) (nth_form fs u) (nth_form fs v) kz ku kv more less))
   owed (EQ z a) few (z_in, (a_in, (kz, (ka, (row, _))))) =
-      pair_owed n fs ls (negated z) (unnegated a) (rw negated-names z_in) (rw unnegated-names a_in)
-      (λ ρ. simp (unnegated-true, negated-true) (equation ρ (nth_form fs z) (nth_form fs a) kz ka row))
+      pair_owed n fs ls (negated z) (unnegated a) (rw negated_names z_in) (rw unnegated_names a_in)
+      (λ ρ. simp (unnegated_true, negated_true) (equation ρ (nth_form fs z) (nth_form fs a) kz ka row))
   owed (TI a b c) few (a_in, (b_in, (ka, (kb, (range, (row, _)))))) =
       let (positive, _) = T_and (le_z (pos 1) c) (le_z c (pos largest_multiplier)) range in
-      pair_owed n fs ls (negated a) (unnegated b) (rw negated-names a_in) (rw unnegated-names b_in)
-      (λ ρ. simp (unnegated-true, negated-true) (tightening ρ c (nth_form fs a) (nth_form fs b) ka kb positive row))
+      pair_owed n fs ls (negated a) (unnegated b) (rw negated_names a_in) (rw unnegated_names b_in)
+      (λ ρ. simp (unnegated_true, negated_true) (tightening ρ c (nth_form fs a) (nth_form fs b) ka kb positive row))
   owed (WK z g) few (z_in, (g_in, (kz, (kg, (row, _))))) =
-      pair_owed n fs ls (negated z) (unnegated g) (rw negated-names z_in) (rw unnegated-names g_in)
-      (λ ρ. simp (unnegated-true, negated-true) (weakening ρ (nth_form fs z) (nth_form fs g) kz kg row))
+      pair_owed n fs ls (negated z) (unnegated g) (rw negated_names z_in) (rw unnegated_names g_in)
+      (λ ρ. simp (unnegated_true, negated_true) (weakening ρ (nth_form fs z) (nth_form fs g) kz kg row))
   owed (CL ts) few (names, (ascends, (kinds, (_, (divisors, (sum, _)))))) =
       negated_owed n fs ls ts few names ascends
       (λ ρ. clash_sound ρ n (nth_form fs) ts (first_divisor fs ts) kinds divisors sum)
   owed (AR gs) few (names, (divided, (rows, _))) =
-      line_owed n fs ls (map unnegated gs) (simp length-map few) (rw (all_map (below (length fs)) unnegated gs) (simp unnegated-names names))
-      (λ ρ. simp (any-map, unnegated-true) (remainder_sound ρ (nth_form fs) gs divided rows))
+      line_owed n fs ls (map unnegated gs) (simp length-map few) (rw (all_map (below (length fs)) unnegated gs) (simp unnegated_names names))
+      (λ ρ. simp (any_map, unnegated_true) (remainder_sound ρ (nth_form fs) gs divided rows))
   owed (LF g h) few (g_in, (h_in, (kg, (kh, (condition, _))))) =
-      pair_owed n fs ls (negated g) (unnegated h) (rw negated-names g_in) (rw unnegated-names h_in)
-      (λ ρ. simp (unnegated-true, negated-true) (loosening ρ (nth_form fs g) (nth_form fs h) kg kh condition))
+      pair_owed n fs ls (negated g) (unnegated h) (rw negated_names g_in) (rw unnegated_names h_in)
+      (λ ρ. simp (unnegated_true, negated_true) (loosening ρ (nth_form fs g) (nth_form fs h) kg kh condition))
   owed (SU g h k) few (g_in, (h_in, (kg, (kh, (_, (condition, _)))))) =
-      pair_owed n fs ls (negated g) (unnegated h) (rw negated-names g_in) (rw unnegated-names h_in)
-      (λ ρ. simp (unnegated-true, negated-true) (scaling_up ρ (pos k) (nth_form fs g) (nth_form fs h) kg kh condition))
+      pair_owed n fs ls (negated g) (unnegated h) (rw negated_names g_in) (rw unnegated_names h_in)
+      (λ ρ. simp (unnegated_true, negated_true) (scaling_up ρ (pos k) (nth_form fs g) (nth_form fs h) kg kh condition))
   owed (SD g h k) few (g_in, (h_in, (kg, (kh, (positive, (condition, _)))))) =
-      pair_owed n fs ls (negated h) (unnegated g) (rw negated-names h_in) (rw unnegated-names g_in)
-      (λ ρ. simp (unnegated-true, negated-true) (scaling_down ρ (pos k) (nth_form fs g) (nth_form fs h) kg kh condition (le_z_yes positive)))
+      pair_owed n fs ls (negated h) (unnegated g) (rw negated_names h_in) (rw unnegated_names g_in)
+      (λ ρ. simp (unnegated_true, negated_true) (scaling_down ρ (pos k) (nth_form fs g) (nth_form fs h) kg kh condition (le_z_yes positive)))

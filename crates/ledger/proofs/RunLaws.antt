@@ -19,7 +19,7 @@ use Rattle.ledger.specs.Numbers.{shape_order, record_order}
 use Rattle.ledger.specs.History.{after_bytes}
 use Rattle.ledger.specs.Kept.{AcceptedBytes}
 use Rattle.ledger.proofs.LayoutLaws.{two_letters}
-use Rattle.ledger.proofs.Numbers.{number_in, byte_tests, bytes-follow, bytes_found}
+use Rattle.ledger.proofs.Numbers.{number_in, byte_tests, bytes_follow, bytes_found}
 
 -- ---- the records of a stream
 
@@ -75,14 +75,14 @@ pub fuel_enough : (k : ℕ) (b : List ℕ) → length b ≤ k → split k b ≡ 
 fuel_enough k b h = any_fuel k (length b) b h (omega arith)
 
 -- the front record, and then the records of what is left
-pub records-step : (x : ℕ) (b : List ℕ) → records_of (x ∷ b) ≡ take (front (x ∷ b)) (x ∷ b) ∷ records_of (drop (front (x ∷ b)) (x ∷ b))
+pub records_step : (x : ℕ) (b : List ℕ) → records_of (x ∷ b) ≡ take (front (x ∷ b)) (x ∷ b) ∷ records_of (drop (front (x ∷ b)) (x ∷ b))
 unfolding split
-records-step x b = ap (λ r. front_record (x ∷ b) ∷ r) (fuel_enough (length b) (after_front (x ∷ b)) (after_shorter x b (length b) (omega arith)))
+records_step x b = ap (λ r. front_record (x ∷ b) ∷ r) (fuel_enough (length b) (after_front (x ∷ b)) (after_shorter x b (length b) (omega arith)))
 
 -- ---- no refusal has the number 0
 
 pub never_zero : (n : ℕ) (l : Ledger) (b : List ℕ) {k : ℕ} → (apply_bytes n l b).answer ≡ refused k → 0 < k
-never_zero n l b {k} e = positive k (number_in (shape_order ++ record_order) (byte_tests n l b) (bytes-follow n l b) ((bytes_found n l b k).0 e))
+never_zero n l b {k} e = positive k (number_in (shape_order ++ record_order) (byte_tests n l b) (bytes_follow n l b) ((bytes_found n l b k).0 e))
   where
     positive : (k : ℕ) → T (holds k (shape_order ++ record_order)) → 0 < k
     positive zero t = absurd t
@@ -147,8 +147,8 @@ stops_from n k c l (b ∷ bs) = go (apply_bytes n l b).answer refl (stops_from n
       record { good = tt; ledger = refl; bytes = refl; end = inr (omega arith, e) },
     )
 
-same-run : (s r : Run) → Counted 0 0 s r → s ≡ r
-same-run s r h = λ i. record { records = e i; bytes = f i; stop = sym h.stop i; ledger = sym h.ledger i }
+same_run : (s r : Run) → Counted 0 0 s r → s ≡ r
+same_run s r h = λ i. record { records = e i; bytes = f i; stop = sym h.stop i; ledger = sym h.ledger i }
   where
     e : s.records ≡ r.records
     e = omega arith
@@ -160,7 +160,7 @@ pub stops_at_first_bad : (n : ℕ) (l : Ledger) (bs : List (List ℕ)) → Stops
 unfolding StopsFrom
 stops_at_first_bad n l bs =
     let (s, counted, stops) = stops_from n 0 0 l bs in
-    subst (Stops n l bs) (same-run s (run_from n 0 0 l bs) counted) stops
+    subst (Stops n l bs) (same_run s (run_from n 0 0 l bs) counted) stops
 
 -- for a stream
 pub run_stops_at_first_bad : (n : ℕ) (l : Ledger) (b : List ℕ) → Stops n l (records_of b) (run n l b)
@@ -168,15 +168,15 @@ run_stops_at_first_bad n l b = stops_at_first_bad n l (records_of b)
 
 -- ---- histories
 
-pub fed-after : (n : ℕ) (h bs : List (List ℕ)) → fed_all n (after_bytes n h) bs ≡ after_bytes n (reverse_aux bs h)
+pub fed_after : (n : ℕ) (h bs : List (List ℕ)) → fed_all n (after_bytes n h) bs ≡ after_bytes n (reverse_aux bs h)
 unfolding fed_all after_bytes
-fed-after n h [] = refl
-fed-after n h (b ∷ bs) = fed-after n (b ∷ h) bs
+fed_after n h [] = refl
+fed_after n h (b ∷ bs) = fed_after n (b ∷ h) bs
 
 -- what is fed to a fresh ledger is a history, which has the latest first
-pub fed-is-history : (n : ℕ) (bs : List (List ℕ)) → fed_all n fresh bs ≡ after_bytes n (reverse bs)
+pub fed_is_history : (n : ℕ) (bs : List (List ℕ)) → fed_all n fresh bs ≡ after_bytes n (reverse bs)
 unfolding after_bytes
-fed-is-history n bs = fed-after n [] bs
+fed_is_history n bs = fed_after n [] bs
 
 -- a history that was accepted, fed from its first record on
 pub accepted_back : (n : ℕ) (h bs : List (List ℕ)) → AcceptedBytes n (reverse_aux bs h) → AllAccepted n (after_bytes n h) bs × AcceptedBytes n h

@@ -17,10 +17,10 @@ use Rattle.ledger.specs.Apply.{fail, finding}
 use Rattle.ledger.specs.Bytes.{Bearing, unknown, bears, mark_of, bytes_for, count_from, shape_of, shape, apply_bytes}
 use Rattle.ledger.specs.Split.{front, split, records_of, AllShaped}
 use Rattle.ledger.specs.Run.{Misshapen, run_from, run, fed_all, AllAccepted}
-use Rattle.ledger.proofs.Findings.{passed→pass, bytes-accepted}
-use Rattle.ledger.proofs.RunLaws.{records-step, run_on, run_stops}
-use Rattle.ledger.proofs.FrontLaws.{requires_fixed, requires_counted, fixed-length, count_there, count-inside, counted-length}
-use Rattle.ledger.proofs.FrontCut.{mark-behind, whole, wrong, short, cut, failed}
+use Rattle.ledger.proofs.Findings.{passed→pass, bytes_accepted}
+use Rattle.ledger.proofs.RunLaws.{records_step, run_on, run_stops}
+use Rattle.ledger.proofs.FrontLaws.{requires_fixed, requires_counted, fixed_length, count_there, count_inside, counted_length}
+use Rattle.ledger.proofs.FrontCut.{mark_behind, whole, wrong, short, cut, failed}
 
 -- ---- a record of good shape, with bytes behind it
 
@@ -35,44 +35,44 @@ module _ (b : List ℕ) (p : Passed (shape b)) where
 
     module _ (m : RecordMark) (e : mark_of b ≡ bears m) where
       behind : mark_of (b ++ c) ≡ bears m
-      behind = mark-behind b c two ∙ e
+      behind = mark_behind b c two ∙ e
 
-      front-marked : (u : Bool) → (layout m).counted ≡ u → front (b ++ c) ≡ length b
-      front-marked false u =
-          (requires_fixed (b ++ c) m behind longer u).front-is ∙ omega (arith, fixed-length b m e p u, mul-zero (layout m).each)
-      front-marked true u =
+      front_marked : (u : Bool) → (layout m).counted ≡ u → front (b ++ c) ≡ length b
+      front_marked false u =
+          (requires_fixed (b ++ c) m behind longer u).front_is ∙ omega (arith, fixed_length b m e p u, mul-zero (layout m).each)
+      front_marked true u =
           let there = count_there b m e p u in
           let same : count_from m (b ++ c) ≡ count_from m b = get_or-append b c 0 (layout m).place there in
-          let inside : count_in m (count_from m (b ++ c)) ≡ true = rw same (T→true (count_in m (count_from m b)) (count-inside b m e p u)) in
-          (requires_counted (b ++ c) m behind longer u (rw length-append (omega arith)) inside).front-is
+          let inside : count_in m (count_from m (b ++ c)) ≡ true = rw same (T→true (count_in m (count_from m b)) (count_inside b m e p u)) in
+          (requires_counted (b ++ c) m behind longer u (rw length-append (omega arith)) inside).front_is
           ∙ ap (bytes_for m) same
-          ∙ sym (counted-length b m e p u)
+          ∙ sym (counted_length b m e p u)
 
     -- it is the front record
-    pub front-whole : front (b ++ c) ≡ length b
+    pub front_whole : front (b ++ c) ≡ length b
     unfolding shape
-    front-whole = go (mark_of b) refl p.1
+    front_whole = go (mark_of b) refl p.1
       where
         go : (v : Bearing) → mark_of b ≡ v → Passed (shape_of b v) → front (b ++ c) ≡ length b
         go unknown e q = absurd q.0
-        go (bears m) e q = front-marked m e (layout m).counted refl
+        go (bears m) e q = front_marked m e (layout m).counted refl
 
 -- bytes whose front record is b
-first-record : (b c : List ℕ) → 0 < length b → front (b ++ c) ≡ length b → records_of (b ++ c) ≡ b ∷ records_of c
-first-record [] c h e = absurd (omega arith)
-first-record (x ∷ b) c h e = records-step x (b ++ c) ∙ rw (e, take-append_seam (x ∷ b) c, drop-append_seam (x ∷ b) c)
+first_record : (b c : List ℕ) → 0 < length b → front (b ++ c) ≡ length b → records_of (b ++ c) ≡ b ∷ records_of c
+first_record [] c h e = absurd (omega arith)
+first_record (x ∷ b) c h e = records_step x (b ++ c) ∙ rw (e, take-append_seam (x ∷ b) c, drop-append_seam (x ∷ b) c)
 
 -- records of good shape, whatever follows them
-pub split-joined : (bs : List (List ℕ)) → AllShaped bs → (c : List ℕ) → records_of (flatten bs ++ c) ≡ bs ++ records_of c
+pub split_joined : (bs : List (List ℕ)) → AllShaped bs → (c : List ℕ) → records_of (flatten bs ++ c) ≡ bs ++ records_of c
 unfolding AllShaped flatten
-split-joined [] p c = refl
-split-joined (b ∷ bs) (p, ps) c =
+split_joined [] p c = refl
+split_joined (b ∷ bs) (p, ps) c =
     rw append_assoc
-    (first-record b (flatten bs ++ c) (omega (arith, two b p)) (front-whole b p (flatten bs ++ c)) ∙ ap (λ rs. b ∷ rs) (split-joined bs ps c))
+    (first_record b (flatten bs ++ c) (omega (arith, two b p)) (front_whole b p (flatten bs ++ c)) ∙ ap (λ rs. b ∷ rs) (split_joined bs ps c))
 
-pub records-joined : (bs : List (List ℕ)) → AllShaped bs → records_of (flatten bs) ≡ bs
+pub records_joined : (bs : List (List ℕ)) → AllShaped bs → records_of (flatten bs) ≡ bs
 unfolding split
-records-joined bs p = ap records_of (sym (append-nil (flatten bs))) ∙ split-joined bs p [] ∙ append-nil bs
+records_joined bs p = ap records_of (sym (append-nil (flatten bs))) ∙ split_joined bs p [] ∙ append-nil bs
 
 -- ---- a stream that ends inside a record
 
@@ -83,16 +83,16 @@ module _ (b : List ℕ) (p : Passed (shape b)) (k : ℕ) (some : 0 < k) (less : 
   part_length : length part ≡ k
   part_length = length-take-le k b (omega arith)
 
-  front-all : front b ≡ length b
-  front-all = rw append-nil at (front-whole b p [])
+  front_all : front b ≡ length b
+  front_all = rw append-nil at (front_whole b p [])
 
   pub part_misshapen : Misshapen part 3
   part_misshapen = elim (cut part) [
     | whole q h same ↦
         let e : front b ≡ front part = rw (take-append-drop k b) at (same (drop k b)) in
-        absurd (omega (arith, front-all, part_length))
+        absurd (omega (arith, front_all, part_length))
     | wrong j other f ↦
-        let e : finding (shape b) ≡ fail j = rw (take-append-drop k b, take_all (front b) b (omega (arith, front-all))) at (f (drop k b)) in
+        let e : finding (shape b) ≡ fail j = rw (take-append-drop k b, take_all (front b) b (omega (arith, front_all))) at (f (drop k b)) in
         let good = passed→pass (shape b) p in
         never (cc)
     | short w h ↦ w
@@ -104,23 +104,23 @@ module _ (b : List ℕ) (p : Passed (shape b)) (k : ℕ) (some : 0 < k) (less : 
     where
       go : (a : List ℕ) → length a ≤ front a → 0 < length a → records_of a ≡ a ∷ []
       go [] h s = absurd (omega arith)
-      go (x ∷ a) h s = records-step x a ∙ rw (take_all (front (x ∷ a)) (x ∷ a) h, drop_of_length-le (x ∷ a) h)
+      go (x ∷ a) h s = records_step x a ∙ rw (take_all (front (x ∷ a)) (x ∷ a) h, drop_of_length-le (x ∷ a) h)
 
-  pub ends-inside : (bs : List (List ℕ)) → AllShaped bs → records_of (flatten bs ++ take k b) ≡ bs ++ (take k b ∷ [])
-  ends-inside bs q = split-joined bs q part ∙ ap (λ rs. bs ++ rs) part_alone
+  pub ends_inside : (bs : List (List ℕ)) → AllShaped bs → records_of (flatten bs ++ take k b) ≡ bs ++ (take k b ∷ [])
+  ends_inside bs q = split_joined bs q part ∙ ap (λ rs. bs ++ rs) part_alone
 
   pub part_refused : (n : ℕ) (l : Ledger) → (apply_bytes n l (take k b)).answer ≡ refused 3
   part_refused n l = failed n l part part_misshapen.failed
 
 -- ---- a run
 
-accepted-shaped : (n : ℕ) (l : Ledger) (bs : List (List ℕ)) → AllAccepted n l bs → AllShaped bs
+accepted_shaped : (n : ℕ) (l : Ledger) (bs : List (List ℕ)) → AllAccepted n l bs → AllShaped bs
 unfolding AllAccepted AllShaped
-accepted-shaped n l [] a = tt
-accepted-shaped n l (b ∷ bs) (a, rest) = (go (apply_bytes n l b).answer refl a, accepted-shaped n (apply_bytes n l b).ledger bs rest)
+accepted_shaped n l [] a = tt
+accepted_shaped n l (b ∷ bs) (a, rest) = (go (apply_bytes n l b).answer refl a, accepted_shaped n (apply_bytes n l b).ledger bs rest)
   where
     go : (r : Answer) → (apply_bytes n l b).answer ≡ r → is_accepted r → Passed (shape b)
-    go (accepted m) e t = (bytes-accepted n l b m e).0
+    go (accepted m) e t = (bytes_accepted n l b m e).0
     go (refused k) e t = absurd t
 
 -- records that are accepted are counted
@@ -149,6 +149,6 @@ pub stops_inside : (n : ℕ) (l : Ledger) (bs : List (List ℕ)) → AllAccepted
     → run n l (flatten bs ++ take k b) ≡ record { records = length bs; bytes = length (flatten bs); stop = 3; ledger = fed_all n l bs }
 stops_inside n l bs a b p k some less =
     let end = fed_all n l bs in
-    ap (run_from n 0 0 l) (ends-inside b p k some less bs (accepted-shaped n l bs a))
+    ap (run_from n 0 0 l) (ends_inside b p k some less bs (accepted_shaped n l bs a))
     ∙ (rw (zero-add (length bs), zero-add (length (flatten bs))) at (run_through n 0 0 l bs (take k b ∷ []) a))
     ∙ run_stops n (length bs) (length (flatten bs)) end (take k b) [] (part_refused b p k some less n end)

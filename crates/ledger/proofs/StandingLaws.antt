@@ -28,10 +28,10 @@ filled_more x ls n h f (suc i) l = f i (omega arith)
 abbrev pub LowestEmpty : List Line → ℕ → Type 0
 LowestEmpty ls i = (i < length ls) × (nth_line ls i ≡ []) × Filled ls i
 
-lowest-from : (k n : ℕ) (ls : List Line) → standing_from k ls ≡ refuted n → (i : ℕ) × (n ≡ k + i) × LowestEmpty ls i
+lowest_from : (k n : ℕ) (ls : List Line) → standing_from k ls ≡ refuted n → (i : ℕ) × (n ≡ k + i) × LowestEmpty ls i
 unfolding standing_from
-lowest-from k n [] e = absurd (let z : ◌≡◌ {A = ℕ} 0 1 = cc in omega arith)
-lowest-from k n (x ∷ ls) e = go (eqb (length x.literals) 0) (empty x.literals) (filled x.literals) (lowest-from (suc k) n ls) e
+lowest_from k n [] e = absurd (let z : ◌≡◌ {A = ℕ} 0 1 = cc in omega arith)
+lowest_from k n (x ∷ ls) e = go (eqb (length x.literals) 0) (empty x.literals) (filled x.literals) (lowest_from (suc k) n ls) e
   where
     go : (b : Bool) → (T b → x.literals ≡ []) → (T (not b) → 0 < length x.literals)
         → (standing_from (suc k) ls ≡ refuted n → (i : ℕ) × (n ≡ suc k + i) × LowestEmpty ls i)
@@ -51,11 +51,11 @@ none_from k (x ∷ ls) e = go (eqb (length x.literals) 0) (filled x.literals) (n
     go true g rest e = absurd (let z : ◌≡◌ {A = ℕ} 0 1 = cc in omega arith)
     go false g rest e = filled_more x ls (length ls) (g tt) (rest e)
 
-pub standing-lowest : (l : Ledger) (i : ℕ) → standing l ≡ refuted i → LowestEmpty l.lines i
-standing-lowest l n e =
-    let (i, same, lowest) = lowest-from 0 n l.lines e in
+pub standing_lowest : (l : Ledger) (i : ℕ) → standing l ≡ refuted i → LowestEmpty l.lines i
+standing_lowest l n e =
+    let (i, same, lowest) = lowest_from 0 n l.lines e in
     let at : n ≡ i = omega arith in
     rw at lowest
 
-pub standing-none : (l : Ledger) → standing l ≡ not_refuted → Filled l.lines (length l.lines)
-standing-none l = none_from 0 l.lines
+pub standing_none : (l : Ledger) → standing l ≡ not_refuted → Filled l.lines (length l.lines)
+standing_none l = none_from 0 l.lines

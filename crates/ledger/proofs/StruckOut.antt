@@ -15,8 +15,8 @@ use Rattle.ledger.specs.Bytes.{decode, apply_bytes}
 use Rattle.ledger.specs.History.{after_bytes, AcceptedAfter, OpAt, LastOp, StrikesOut, refusal, withdrawal, StruckOut}
 use Rattle.ledger.specs.History.{Remains, none, goes, stays, InForce, op_count, NoWD}
 use Rattle.ledger.specs.Kept.{strike, entered, kept, bytes_in_force}
-use Rattle.ledger.proofs.Findings.{bytes-refused}
-use Rattle.ledger.proofs.Withdrawal.{withdrawn-levels, marks-add}
+use Rattle.ledger.proofs.Findings.{bytes_refused}
+use Rattle.ledger.proofs.Withdrawal.{withdrawn_levels, marks_add}
 use Rattle.ledger.proofs.InForce.{when_accepted, level_open}
 
 -- ---- what remains is one list only
@@ -39,11 +39,11 @@ remains_same f g (stays {h} p r) =
 
 -- ---- a withdrawal
 
-op-inside : (h : List (List ℕ)) (k : ℕ) → OpAt h k → k < length h
+op_inside : (h : List (List ℕ)) (k : ℕ) → OpAt h k → k < length h
 unfolding OpAt
-op-inside [] k a = absurd a
-op-inside (x ∷ h) k (inl e) = omega (arith, e.0)
-op-inside (x ∷ h) k (inr a) = omega (arith, op-inside h k a)
+op_inside [] k a = absurd a
+op_inside (x ∷ h) k (inl e) = omega (arith, e.0)
+op_inside (x ∷ h) k (inr a) = omega (arith, op_inside h k a)
 
 -- from the last OP that remains on, all goes
 record Struck (P : ℕ → Type 0) (h ks : List (List ℕ)) : Type 0 where
@@ -81,7 +81,7 @@ strikes {P} (stays {x} {h} {ks} p r) c = go (decode x) refl (strikes r)
                 stands = s.last.stands;
                 last = λ q l a. elim a [ inl e ↦ absurd (other e.1) | inr b ↦ s.last.last q l b ];
               };
-          rest = goes {h = h} (inr (omega (arith, op-inside h s.from s.last.opens))) s.rest;
+          rest = goes {h = h} (inr (omega (arith, op_inside h s.from s.last.opens))) s.rest;
         }
 
     -- x is an OP: it is the last
@@ -93,7 +93,7 @@ strikes {P} (stays {x} {h} {ks} p r) c = go (decode x) refl (strikes r)
               record {
                 opens = inl (refl, e);
                 stands = p;
-                last = λ q l a. absurd (omega (arith, op-inside (x ∷ h) q a));
+                last = λ q l a. absurd (omega (arith, op_inside (x ∷ h) q a));
               };
           rest = rw (e, strike) (goes {h = h} (inr (omega arith)) (remains_same (λ k l t. inl t) (λ k l t. elim t [ inl u ↦ u | inr u ↦ absurd (omega arith) ]) r));
         }
@@ -103,10 +103,10 @@ strikes {P} (stays {x} {h} {ks} p r) c = go (decode x) refl (strikes r)
     go OP e rest = here e
     go WD e rest = let s = beyond (λ d. never (cc)) (rest (rw (e, op_count) at c)) in record { from = s.from; last = s.last; rest = rw (e, strike) s.rest }
 
-strike-count : (ks : List (List ℕ)) → 0 < op_count ks → suc (op_count (strike ks)) ≡ op_count ks
+strike_count : (ks : List (List ℕ)) → 0 < op_count ks → suc (op_count (strike ks)) ≡ op_count ks
 unfolding op_count
-strike-count [] c = absurd (omega arith)
-strike-count (x ∷ ks) c = go (decode x) refl (strike-count ks)
+strike_count [] c = absurd (omega arith)
+strike_count (x ∷ ks) c = go (decode x) refl (strike_count ks)
   where
     go : (r : Record) → decode x ≡ r → (0 < op_count ks → suc (op_count (strike ks)) ≡ op_count ks)
         → suc (op_count (strike (x ∷ ks))) ≡ op_count (x ∷ ks)
@@ -158,16 +158,16 @@ module _ (n : ℕ) where
 
       by : (m : Made) → (apply_bytes n l x).answer ≡ accepted m → (r : Record) → decode x ≡ r → op_count ks ≡ length l.marks
           → op_count (entered x ks) ≡ length (apply_bytes n l x).ledger.marks
-      by m e (make r) s c = rw (s, entered, op_count, when_accepted n l x m e, s, marks-add l (makes l.lines r)) c
+      by m e (make r) s c = rw (s, entered, op_count, when_accepted n l x m e, s, marks_add l (makes l.lines r)) c
       by m e OP s c = rw (s, entered, op_count, when_accepted n l x m e, s) (ap suc c)
       by m e WD s c =
           let p : 0 < length l.marks = level_open n l x m e s in
-          rw (s, entered, when_accepted n l x m e, s) (omega (arith, strike-count ks (omega arith), withdrawn-levels l p))
+          rw (s, entered, when_accepted n l x m e, s) (omega (arith, strike_count ks (omega arith), withdrawn_levels l p))
 
       go : (a : Answer) → (apply_bytes n l x).answer ≡ a → op_count ks ≡ length l.marks
           → op_count (kept (apply_bytes n l x).answer x ks) ≡ length (apply_bytes n l x).ledger.marks
       go (accepted m) e c = rw (e) (by m e (decode x) refl c)
-      go (refused k) e c = rw (e, bytes-refused n l x k e) c
+      go (refused k) e c = rw (e, bytes_refused n l x k e) c
 
   -- no WD is in force
   pub in_force_no_wd : (h : List (List ℕ)) → NoWD (bytes_in_force n h)
@@ -231,7 +231,7 @@ module _ (n : ℕ) where
 
       withdraws : is_accepted (apply_bytes n l x).answer → decode x ≡ WD → Struck P h ks → Remains (λ k. P k ⊎ Now k) (x ∷ h) (strike ks)
       withdraws a s c =
-          goes {h = h} (inr (withdrawal a s c.from c.last (omega (arith, op-inside h c.from c.last.opens)) (omega arith)))
+          goes {h = h} (inr (withdrawal a s c.from c.last (omega (arith, op_inside h c.from c.last.opens)) (omega arith)))
           (remains_same
           (λ k i t. elim t [ inl u ↦ inl u | inr u ↦ inr (withdrawal a s c.from c.last u (omega arith)) ])
           (λ k i t. elim t [ inl u ↦ inl u | inr u ↦ inr (from a c.from c.last k u) ])
@@ -253,9 +253,9 @@ module _ (n : ℕ) where
           rw e (goes {h = h} (inr (refusal not refl)) (same (only_itself not) r))
 
   -- every WD is struck out as it is fed
-  wd-goes : (x : List ℕ) (h : List (List ℕ)) → decode x ≡ WD → StruckOut n (x ∷ h) (length h)
+  wd_goes : (x : List ℕ) (h : List (List ℕ)) → decode x ≡ WD → StruckOut n (x ∷ h) (length h)
   unfolding StruckOut
-  wd-goes x h s = go (apply_bytes n l x).answer refl
+  wd_goes x h s = go (apply_bytes n l x).answer refl
     where
       l : Ledger
       l = after_bytes n h
@@ -264,13 +264,13 @@ module _ (n : ℕ) where
       go (accepted m) e =
           let c = strikes (in_force_remains h) (omega (arith, level_open n l x m e s, open_levels h)) in
           inr
-          (withdrawal (subst is_accepted (sym e) tt) s c.from c.last (omega (arith, op-inside h c.from c.last.opens)) (omega arith))
+          (withdrawal (subst is_accepted (sym e) tt) s c.from c.last (omega (arith, op_inside h c.from c.last.opens)) (omega arith))
       go (refused k) e = inr (refusal (λ t. subst is_accepted e t) refl)
 
   -- whatever was not struck out is no WD
   pub remaining_no_wd : (later : List (List ℕ)) (x : List ℕ) (h : List (List ℕ)) → (StruckOut n (later ++ (x ∷ h)) (length h) → ⊥) → decode x ≡ WD → ⊥
   unfolding StruckOut
-  remaining_no_wd [] x h not s = not (wd-goes x h s)
+  remaining_no_wd [] x h not s = not (wd_goes x h s)
   remaining_no_wd (y ∷ later) x h not s = remaining_no_wd later x h (λ t. not (inl t)) s
 
   -- and nothing else remains

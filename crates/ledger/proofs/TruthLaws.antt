@@ -17,20 +17,20 @@ use Rattle.ints.proofs.Lists.{all_agree, any_agree}
 
 -- ---- the form named
 
-pub unnegated-names : (f : ℕ) → form_named (unnegated f) ≡ f
-unnegated-names f = omega arith
+pub unnegated_names : (f : ℕ) → form_named (unnegated f) ≡ f
+unnegated_names f = omega arith
 
-pub negated-names : (f : ℕ) → form_named (negated f) ≡ f
-negated-names f = omega arith
+pub negated_names : (f : ℕ) → form_named (negated f) ≡ f
+negated_names f = omega arith
 
 module _ (ρ : Integers) (fs : List Form) (f : ℕ) where
-  pub unnegated-true : literal_true ρ fs (unnegated f) ≡ form_true ρ (nth_form fs f)
+  pub unnegated_true : literal_true ρ fs (unnegated f) ≡ form_true ρ (nth_form fs f)
   unfolding literal_true
-  unnegated-true = let e : unnegated f % 2 ≡ 0 = omega arith in rw (e, unnegated-names f)
+  unnegated_true = let e : unnegated f % 2 ≡ 0 = omega arith in rw (e, unnegated_names f)
 
-  pub negated-true : literal_true ρ fs (negated f) ≡ not (form_true ρ (nth_form fs f))
+  pub negated_true : literal_true ρ fs (negated f) ≡ not (form_true ρ (nth_form fs f))
   unfolding literal_true
-  negated-true = let e : negated f % 2 ≡ 1 = omega arith in rw (e, negated-names f)
+  negated_true = let e : negated f % 2 ≡ 1 = omega arith in rw (e, negated_names f)
 
 -- ---- only the forms named count
 

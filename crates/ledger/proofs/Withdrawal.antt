@@ -14,14 +14,14 @@ use Rattle.ledger.specs.Legal.{MarksIn, Marked}
 
 -- ---- what a withdrawal undoes
 
-pub withdrawn-opened : (l : Ledger) → withdrawn (opened l) ≡ l
+pub withdrawn_opened : (l : Ledger) → withdrawn (opened l) ≡ l
 unfolding opened withdrawn
-withdrawn-opened l = simp take-length
+withdrawn_opened l = simp take-length
 
-pub marks-add : (l : Ledger) (x : New) → (add l x).marks ≡ l.marks
+pub marks_add : (l : Ledger) (x : New) → (add l x).marks ≡ l.marks
 unfolding add
-marks-add l (new_form f) = refl
-marks-add l (new_line x) = refl
+marks_add l (new_form f) = refl
+marks_add l (new_line x) = refl
 
 back_form : (fs : List Form) (ls : List Line) (ms : List Mark) (f : Form)
     → MarksIn (length fs) (length ls) ms → 0 < length ms → back_to (fs ++ (f ∷ [])) ls ms ≡ back_to fs ls ms
@@ -37,14 +37,14 @@ back_levels : (fs : List Form) (ls : List Line) (ms : List Mark) → 0 < length 
 back_levels fs ls [] p = absurd (omega arith)
 back_levels fs ls (m ∷ ms) p = refl
 
-pub withdrawn-levels : (l : Ledger) → 0 < length l.marks → suc (length (withdrawn l).marks) ≡ length l.marks
+pub withdrawn_levels : (l : Ledger) → 0 < length l.marks → suc (length (withdrawn l).marks) ≡ length l.marks
 unfolding withdrawn
-withdrawn-levels l p = back_levels l.forms l.lines l.marks p
+withdrawn_levels l p = back_levels l.forms l.lines l.marks p
 
-pub withdrawn-add : (l : Ledger) (x : New) → Marked l → 0 < length l.marks → withdrawn (add l x) ≡ withdrawn l
+pub withdrawn_add : (l : Ledger) (x : New) → Marked l → 0 < length l.marks → withdrawn (add l x) ≡ withdrawn l
 unfolding add withdrawn
-withdrawn-add l (new_form f) h p = back_form l.forms l.lines l.marks f h p
-withdrawn-add l (new_line x) h p = back_line l.forms l.lines l.marks x h p
+withdrawn_add l (new_form f) h p = back_form l.forms l.lines l.marks f h p
+withdrawn_add l (new_line x) h p = back_line l.forms l.lines l.marks x h p
 
 -- ---- the marks stay within the counts
 
@@ -52,17 +52,17 @@ marks_mono : (ms : List Mark) (f n f' n' : ℕ) → f ≤ f' → n ≤ n' → Ma
 marks_mono [] f n f' n' p q h = tt
 marks_mono (m ∷ ms) f n f' n' p q h = (omega arith, omega arith, h.2)
 
-pub marked-add : (l : Ledger) (x : New) → Marked l → Marked (add l x)
+pub marked_add : (l : Ledger) (x : New) → Marked l → Marked (add l x)
 unfolding add
-marked-add l (new_form f) h = marks_mono l.marks _ _ _ _ (simp length-append (omega arith)) (omega arith) h
-marked-add l (new_line x) h = marks_mono l.marks _ _ _ _ (omega arith) (simp length-append (omega arith)) h
+marked_add l (new_form f) h = marks_mono l.marks _ _ _ _ (simp length-append (omega arith)) (omega arith) h
+marked_add l (new_line x) h = marks_mono l.marks _ _ _ _ (omega arith) (simp length-append (omega arith)) h
 
 marked_back : (fs : List Form) (ls : List Line) (ms : List Mark) → MarksIn (length fs) (length ls) ms → Marked (back_to fs ls ms)
 marked_back fs ls [] h = tt
 marked_back fs ls (m ∷ ms) h = rw (length-take-le m.forms fs h.0, length-take-le m.lines ls h.1) h.2
 
-pub marked-done : (l : Ledger) (r : Record) → Marked l → Marked (done l r)
+pub marked_done : (l : Ledger) (r : Record) → Marked l → Marked (done l r)
 unfolding done
-marked-done l (make r) h = marked-add l (makes l.lines r) h
-marked-done l OP h = (omega arith, omega arith, h)
-marked-done l WD h = marked_back l.forms l.lines l.marks h
+marked_done l (make r) h = marked_add l (makes l.lines r) h
+marked_done l OP h = (omega arith, omega arith, h)
+marked_done l WD h = marked_back l.forms l.lines l.marks h

@@ -31,10 +31,10 @@ Named n ls (m ∷ ms) = T (all (line_below n) ls) × Named m.forms (take m.lines
 
 -- over n unknowns
 pub record Legal (n : ℕ) (l : Ledger) : Type 0 where
-  pub few-forms : length l.forms ≤ most_forms
-  pub few-lines : length l.lines ≤ most_lines
-  pub few-literals : literal_count l.lines ≤ most_literals
-  pub few-levels : length l.marks ≤ most_levels
+  pub few_forms : length l.forms ≤ most_forms
+  pub few_lines : length l.lines ≤ most_lines
+  pub few_literals : literal_count l.lines ≤ most_literals
+  pub few_levels : length l.marks ≤ most_levels
   pub contents : T (all (legal n) l.forms)
   pub each : (i : ℕ) → i < length l.lines → LegalLine (length l.forms) (get_or l.lines i no_line)
   pub marked : Marked l

@@ -59,6 +59,6 @@ pub record Misshapen (b : List ℕ) (k : ℕ) : Type 0 where
 pub record Requires (b : List ℕ) (m : RecordMark) (required : ℕ) : Type 0 where
   pub known : mark_of b ≡ bears m
   pub two : 2 ≤ required
-  pub front-is : front b ≡ required
+  pub front_is : front b ≡ required
   pub short : length b < required → finding (shape b) ≡ fail 3
   pub right : required ≤ length b → finding (shape (take required b)) ≡ pass

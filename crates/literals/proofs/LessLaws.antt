@@ -76,11 +76,11 @@ module _ {line ys cells : List ℕ} {x count : ℕ} (e : line ≡ ys) (g : Gathe
   left_is = g.left ∙ ap (without x) e
 
   module _ (whole : length line ≤ length cells) where
-    count-is : count ≡ length (without x ys)
-    count-is = sym (length-take-le count cells (omega (arith, g.few))) ∙ ap length left_is
+    count_is : count ≡ length (without x ys)
+    count_is = sym (length-take-le count cells (omega (arith, g.few))) ∙ ap length left_is
 
     pub none_lost : count ≡ length line → holds x ys ≡ false
-    none_lost q = same_length x ys (sym count-is ∙ q ∙ ap length e)
+    none_lost q = same_length x ys (sym count_is ∙ q ∙ ap length e)
 
     pub some_lost : (count ≡ length line → ⊥) → holds x ys ≡ true
-    some_lost f = other_length x ys (λ q. f (count-is ∙ q ∙ sym (ap length e)))
+    some_lost f = other_length x ys (λ q. f (count_is ∙ q ∙ sym (ap length e)))

@@ -22,7 +22,7 @@ use Rattle.session.specs.Cells.{Tables, named, end_before, literals_at, line_at,
 use Rattle.session.specs.Calls.{entry, stands, no_standing, stands_by, standing}
 use Rattle.order.specs.Empty.{lowest_empty}
 use Rattle.walk.proofs.LineWalk.{rising}
-use Rattle.order.proofs.Entry.{entry-long, entry_clauses}
+use Rattle.order.proofs.Entry.{entry_long, entry_clauses}
 
 -- ---- the loop: line i of n
 
@@ -51,15 +51,15 @@ front zero f = refl
 front (suc n) f = ap (λ l. l ++ (f (suc n) ∷ [])) (front n f)
 
 -- lines that are empty exactly where an end equals the one before
-same-lowest : (lines : List ℕ) (i n : ℕ) (f : ℕ → Line)
+same_lowest : (lines : List ℕ) (i n : ℕ) (f : ℕ → Line)
     → ((k : ℕ) → k < n → eqb (length (f k).literals) 0 ≡ eqb (end_before lines (suc (i + k))) (end_before lines (i + k)))
     → lowest_empty lines i n ≡ stands (standing_from i (up_to n f))
 unfolding lowest_empty standing_from up_to
-same-lowest lines i zero f h = refl
-same-lowest lines i (suc n) f h =
+same_lowest lines i zero f h = refl
+same_lowest lines i (suc n) f h =
     rw (front n f, h 0 (omega arith), add-zero i, add-one i)
     (go (eqb (end_before lines (suc i)) (end_before lines i))
-    (same-lowest lines (suc i) n (λ k. f (suc k)) (λ k l. let e : suc i + k ≡ i + suc k = omega arith in rw e (h (suc k) (omega arith)))))
+    (same_lowest lines (suc i) n (λ k. f (suc k)) (λ k l. let e : suc i + k ≡ i + suc k = omega arith in rw e (h (suc k) (omega arith)))))
   where
     go : (b : Bool) → lowest_empty lines (suc i) n ≡ stands (standing_from (suc i) (up_to n (λ k. f (suc k))))
         → cond b (stands (refuted i)) (lowest_empty lines (suc i) n) ≡ stands (cond b (refuted i) (standing_from (suc i) (up_to n (λ k. f (suc k)))))
@@ -79,30 +79,30 @@ empty_line pool lines k h l =
     let e : length (literals_at pool lines k) ≡ end_before lines (suc k) - end_before lines k = simp (length-take, length-drop) (omega arith) in
     ap (λ (m : ℕ). eqb m 0) e ∙ same_ends (end_before lines k) (end_before lines (suc k)) h
 
-end-named : (lines : List ℕ) (i : ℕ) → i ≤ most_lines → end_before (take line_table lines) i ≡ end_before lines i
-end-named lines zero h = refl
-end-named lines (suc i) h = get_or-take line_table lines (line_cells * i) 0 (omega arith)
+end_named : (lines : List ℕ) (i : ℕ) → i ≤ most_lines → end_before (take line_table lines) i ≡ end_before lines i
+end_named lines zero h = refl
+end_named lines (suc i) h = get_or-take line_table lines (line_cells * i) 0 (omega arith)
 
 module _ (n : ℕ) (s : Session) (t : Tables) where
-  pub standing-refused : (k : ℕ) → entry n s t ≡ fail k → standing n s t ≡ no_standing k
+  pub standing_refused : (k : ℕ) → entry n s t ≡ fail k → standing n s t ≡ no_standing k
   unfolding standing
-  standing-refused k e = ap (λ f. stands_by f n s t) e
+  standing_refused k e = ap (λ f. stands_by f n s t) e
 
-  standing-passed : entry n s t ≡ pass → standing n s t ≡ stands (standing_from 0 (up_to s.lines (line_at (named n t))))
+  standing_passed : entry n s t ≡ pass → standing n s t ≡ stands (standing_from 0 (up_to s.lines (line_at (named n t))))
   unfolding standing ledger_of
-  standing-passed e = ap (λ f. stands_by f n s t) e
+  standing_passed e = ap (λ f. stands_by f n s t) e
 
   pub lowest_empty_lem : entry n s t ≡ pass → lowest_empty t.lines 0 s.lines ≡ standing n s t
   lowest_empty_lem e =
-      let l = entry-long n s t e in
+      let l = entry_long n s t e in
       let g = entry_clauses n s t e in
-      let few-lines = g.few-lines in
+      let few_lines = g.few_lines in
       let cut = take line_table t.lines in
-      same-lowest t.lines 0 s.lines (line_at (named n t))
+      same_lowest t.lines 0 s.lines (line_at (named n t))
       (λ k h.
       let z : 0 + k ≡ k = omega arith in
       let r = rising cut (suc k) s.lines (omega arith) (λ i a b. g.rise i b) in
       rw z
-      (empty_line (take pool_table t.pool) cut k (g.rise k h) (simp length-take (omega (arith, g.last, g.few-literals)))
-      ∙ ap₂ eqb (end-named t.lines (suc k) (omega arith)) (end-named t.lines k (omega arith))))
-      ∙ sym (standing-passed e)
+      (empty_line (take pool_table t.pool) cut k (g.rise k h) (simp length-take (omega (arith, g.last, g.few_literals)))
+      ∙ ap₂ eqb (end_named t.lines (suc k) (omega arith)) (end_named t.lines k (omega arith))))
+      ∙ sym (standing_passed e)

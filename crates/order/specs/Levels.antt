@@ -22,9 +22,9 @@ FormsGood n forms count = (f : ℕ) → f < count → T (legal n (form_at n form
 -- what the test of a level takes for granted
 pub record Below (pool lines : List ℕ) (here low : Mark) : Type 0 where
   pub forms : here.forms ≤ most_forms
-  pub line-room : line_cells * here.lines ≤ length lines
+  pub line_room : line_cells * here.lines ≤ length lines
   pub few : here.lines ≤ most_lines
-  pub pool-room : here.literals ≤ length pool
+  pub pool_room : here.literals ≤ length pool
   pub little : here.literals ≤ most_literals
   pub first : end_before lines low.lines ≡ low.literals
 
@@ -46,5 +46,5 @@ LevelsGood pool lines s = (i : ℕ) → i ≤ s.«open» → LevelGood pool line
 -- what the walk through all levels takes for granted
 pub record Passable (pool lines : List ℕ) (s : Session) : Type 0 where
   pub counted : Counted s
-  pub pool-size : length pool ≡ pool_table
-  pub line-size : length lines ≡ line_table
+  pub pool_size : length pool ≡ pool_table
+  pub line_size : length lines ≡ line_table

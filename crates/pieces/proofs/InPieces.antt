@@ -10,7 +10,7 @@ use Rattle.session.specs.Cells.{Tables}
 use Rattle.stream.specs.Run.{Totals, run}
 use Rattle.pieces.specs.Step.{goes_on, decided, Step, total, may_go_on, moved, step_by, step}
 use Rattle.pieces.specs.Pieces.{begun, behind, onward, is_last, handed, DecidedBy}
-use Rattle.pieces.proofs.CellPieces.{counting, cells-add, cells_final, marks_again, cells-within}
+use Rattle.pieces.proofs.CellPieces.{counting, cells_add, cells_final, marks_again, cells_within}
 
 -- a step that goes on behind so many bytes
 abbrev going : ℕ → ℕ → Session → Tables → List ℕ → ℕ → Step
@@ -45,9 +45,9 @@ module _ (n k c : ℕ) (s : Session) (t : Tables) (buffer : List ℕ) (kept : �
   abbrev rest : List ℕ
   rest = drop ran.bytes held
 
-  step-behind : (last : Bool) → step n k c s t (behind kept p buffer) (kept + length p) last ≡ step_by ran k c (behind kept p buffer) rest last
+  step_behind : (last : Bool) → step n k c s t (behind kept p buffer) (kept + length p) last ≡ step_by ran k c (behind kept p buffer) rest last
   unfolding step
-  step-behind last = rw (take_behind kept p buffer fits)
+  step_behind last = rw (take_behind kept p buffer fits)
 
   -- the step over a piece that is not the last, where the pieces that follow it are decided by one run
   module _ (marks : length s.marks ≡ most_levels) (q : List ℕ) (ps : List (List ℕ)) where
@@ -59,14 +59,14 @@ module _ (n k c : ℕ) (s : Session) (t : Tables) (buffer : List ℕ) (kept : �
 
     joined : DecidedBy (counting went.records went.bytes (run n ran.session ran.tables (take (length rest) went.buffer ++ after))) (handed n went (q ∷ ps))
         → DecidedBy (counting k c (run n s t (held ++ after))) (handed n (step n k c s t (behind kept p buffer) (kept + length p) false) (q ∷ ps))
-    joined h = rw (step-behind false) (by (may_go_on ran.stop) refl)
+    joined h = rw (step_behind false) (by (may_go_on ran.stop) refl)
       where
         by : (b : Bool) → may_go_on ran.stop ≡ b
             → DecidedBy (counting k c (run n s t (held ++ after))) (handed n (step_by ran k c (behind kept p buffer) rest false) (q ∷ ps))
         by true e =
             let goes : step_by ran k c (behind kept p buffer) rest false ≡ went = rw e in
             let there = rw (take-append_seam rest (drop (length rest) (behind kept p buffer))) at h in
-            rw (goes, cells-add n s t marks held after)
+            rw (goes, cells_add n s t marks held after)
             (counted_twice k c ran.records ran.bytes (run n ran.session ran.tables (rest ++ after)) (handed n went (q ∷ ps)) there)
         by false e =
             let over : (step_by ran k c (behind kept p buffer) rest false).next ≡ decided ran.stop = rw e in
@@ -76,7 +76,7 @@ from : (n : ℕ) (s : Session) (t : Tables) → length s.marks ≡ most_levels �
     → (p : List ℕ) (ps : List (List ℕ))
     → DecidedBy (counting k c (run n s t (take kept buffer ++ flatten (p ∷ ps)))) (handed n (going k c s t buffer kept) (p ∷ ps))
 unfolding handed flatten
-from n s t marks k c buffer kept fits p [] = rw (append-nil p, step-behind n k c s t buffer kept p fits true)
+from n s t marks k c buffer kept fits p [] = rw (append-nil p, step_behind n k c s t buffer kept p fits true)
 from n s t marks k c buffer kept fits p (q ∷ ps) =
     let x = behind kept p buffer in
     let r = run n s t (take kept buffer ++ p) in
@@ -96,11 +96,11 @@ module _ (n : ℕ) (s : Session) (t : Tables) (marks : length s.marks ≡ most_l
     in_pieces = rw (zero-add whole.records, zero-add whole.bytes) at (from n s t marks 0 0 buffer 0 (omega arith) p ps)
 
     -- no file is so long that its totals begin again at 0
-    pub exact-totals : length (flatten (p ∷ ps)) < 2 ^ 64
+    pub exact_totals : length (flatten (p ∷ ps)) < 2 ^ 64
         → ((handed n (begun s t buffer) (p ∷ ps)).records ≡ (run n s t (flatten (p ∷ ps))).records)
         × ((handed n (begun s t buffer) (p ∷ ps)).bytes ≡ (run n s t (flatten (p ∷ ps))).bytes)
-    exact-totals h =
-        let (few, within) = cells-within n s t marks (flatten (p ∷ ps)) in (
+    exact_totals h =
+        let (few, within) = cells_within n s t marks (flatten (p ∷ ps)) in (
           ap (λ (r : Step). r.records) in_pieces ∙ mod-eq_of_lt (omega arith),
           ap (λ (r : Step). r.bytes) in_pieces ∙ mod-eq_of_lt (omega arith),
         )

@@ -9,7 +9,7 @@ use Rattle.ledger.specs.Record.{Made, Answer, accepted, refused}
 use Rattle.ledger.specs.Bytes.{apply_bytes}
 use Rattle.ledger.specs.Split.{front, split, records_of}
 use Rattle.ledger.specs.Run.{Run, run_from, run}
-use Rattle.ledger.proofs.RunLaws.{front_record, front_positive, split_covers, records-step, never_zero, run_on, run_stops, run_stops_at_first_bad}
+use Rattle.ledger.proofs.RunLaws.{front_record, front_positive, split_covers, records_step, never_zero, run_on, run_stops, run_stops_at_first_bad}
 use Rattle.pieces.specs.Longest.{longest}
 use Rattle.ledger.proofs.FrontCut.{whole, wrong, short, cut, misshapen, failed, still_refused, three_is_short}
 
@@ -44,12 +44,12 @@ module _ (n k c : ℕ) (l : Ledger) where
 
     one_more : Parted n (k + 1) (c + length first) after others (run_from n (k + 1) (c + length first) after (records_of others))
         → Parted n k c l (x ∷ a) (run_from n k c l (records_of (x ∷ a)))
-    one_more rest = rw (records-step x a) (by (apply_bytes n l first).answer refl)
+    one_more rest = rw (records_step x a) (by (apply_bytes n l first).answer refl)
       where
         -- where the front record is accepted
-        taken-on : {m : Made} → (apply_bytes n l first).answer ≡ accepted m → size ≤ length (x ∷ a) → ((b : List ℕ) → front (x ∷ a ++ b) ≡ size)
+        taken_on : {m : Made} → (apply_bytes n l first).answer ≡ accepted m → size ≤ length (x ∷ a) → ((b : List ℕ) → front (x ∷ a ++ b) ≡ size)
             → Parted n k c l (x ∷ a) (run_from n (k + 1) (c + length first) after (records_of others))
-        taken-on e h same =
+        taken_on e h same =
             let s = length-take-le size (x ∷ a) h in
             let t = length-drop size (x ∷ a) in
             record {
@@ -58,7 +58,7 @@ module _ (n k c : ℕ) (l : Ledger) where
               counted = omega arith;
               few = omega (arith, front_positive x a);
               on = λ b.
-                  rw (records-step x (a ++ b), same b, take-append-le size (x ∷ a) b h, drop-append-le size (x ∷ a) b h)
+                  rw (records_step x (a ++ b), same b, take-append-le size (x ∷ a) b h, drop-append-le size (x ∷ a) b h)
                   (run_on n k c l first (records_of (others ++ b)) e ∙ rest.on b ∙ rw drop-drop);
               end = elim rest.end [ inl z ↦ inl z | inr z ↦ inr (omega arith, rw drop-drop at z.1) ];
             }
@@ -68,7 +68,7 @@ module _ (n k c : ℕ) (l : Ledger) where
             rw (run_stops n k c l first (records_of others) e)
             (record { taken = 0; within = omega arith; counted = omega arith; few = omega arith; on = λ b. refl; end = inr (omega arith, e) })
         by (accepted m) e = elim (cut (x ∷ a)) [
-          | whole p h same ↦ rw (run_on n k c l first (records_of others) e) (taken-on e h same)
+          | whole p h same ↦ rw (run_on n k c l first (records_of others) e) (taken_on e h same)
           | wrong i other p ↦ let q = failed n l first (rw append-nil at (p [])) in never (cc)
           | short w h ↦ let q = failed n l first (misshapen w) in never (cc)
         ]
@@ -84,7 +84,7 @@ parted (suc j) n k c l (x ∷ a) h =
 ends : (n k c : ℕ) (l : Ledger) (a b : List ℕ) {i : ℕ} → 0 < length a → (i ≡ 3 → ⊥) → (apply_bytes n l (front_record a)).answer ≡ refused i
     → run_from n k c l (records_of (a ++ b)) ≡ record { records = k; bytes = c; stop = i; ledger = l }
 ends n k c l [] b h other e = absurd (omega arith)
-ends n k c l (x ∷ a) b h other e = rw (records-step x (a ++ b)) (run_stops n k c l _ _ (still_refused n l (x ∷ a) b other e))
+ends n k c l (x ∷ a) b h other e = rw (records_step x (a ++ b)) (run_stops n k c l _ _ (still_refused n l (x ∷ a) b other e))
 
 -- ---- a run over pieces
 
@@ -92,8 +92,8 @@ module _ (n : ℕ) (l : Ledger) (a : List ℕ) where
   run_parted : Parted n 0 0 l a (run n l a)
   run_parted = parted (length a) n 0 0 l a (omega arith)
 
-  taken-counted : run_parted.taken ≡ (run n l a).bytes
-  taken-counted = let p = run_parted in omega arith
+  taken_counted : run_parted.taken ≡ (run n l a).bytes
+  taken_counted = let p = run_parted in omega arith
 
 -- a run accepts no more than there is, and no record without bytes
 pub accepts_within : (n : ℕ) (l : Ledger) (a : List ℕ) → let r = run n l a in (r.records ≤ r.bytes) × (r.bytes ≤ length a)
@@ -102,17 +102,17 @@ accepts_within n l a = let p = run_parted n l a in (omega arith, omega arith)
 -- what a run accepts of a front part it accepts of the whole, and goes on from there
 pub in_pieces : (n : ℕ) (l : Ledger) (a b : List ℕ)
     → let r = run n l a in run n l (a ++ b) ≡ run_from n r.records r.bytes r.ledger (records_of (drop r.bytes a ++ b))
-in_pieces n l a b = rw (taken-counted n l a) at ((run_parted n l a).on b)
+in_pieces n l a b = rw (taken_counted n l a) at ((run_parted n l a).on b)
 
 -- a run where so many records and bytes were counted before
 abbrev pub counting : ℕ → ℕ → Run → Run
 counting k c r = record { records = k + r.records; bytes = c + r.bytes; stop = r.stop; ledger = r.ledger }
 
-counted-from : (n k c i d : ℕ) (l : Ledger) (bs : List (List ℕ)) → run_from n (k + i) (c + d) l bs ≡ counting k c (run_from n i d l bs)
+counted_from : (n k c i d : ℕ) (l : Ledger) (bs : List (List ℕ)) → run_from n (k + i) (c + d) l bs ≡ counting k c (run_from n i d l bs)
 unfolding run_from
-counted-from n k c i d l [] = refl
-counted-from n k c i d l (b ∷ bs) =
-    by (apply_bytes n l b).answer refl (counted-from n k c (i + 1) (d + length b) (apply_bytes n l b).ledger bs)
+counted_from n k c i d l [] = refl
+counted_from n k c i d l (b ∷ bs) =
+    by (apply_bytes n l b).answer refl (counted_from n k c (i + 1) (d + length b) (apply_bytes n l b).ledger bs)
   where
     after : Ledger
     after = (apply_bytes n l b).ledger
@@ -126,12 +126,12 @@ counted-from n k c i d l (b ∷ bs) =
     by (refused j) e rest = run_stops n (k + i) (c + d) l b bs e ∙ ap (counting k c) (sym (run_stops n i d l b bs e))
 
 -- so totals add up from piece to piece
-pub totals-add : (n : ℕ) (l : Ledger) (a b : List ℕ) → let r = run n l a in
+pub totals_add : (n : ℕ) (l : Ledger) (a b : List ℕ) → let r = run n l a in
     run n l (a ++ b) ≡ counting r.records r.bytes (run n r.ledger (drop r.bytes a ++ b))
-totals-add n l a b =
+totals_add n l a b =
     let r = run n l a in
     let rest = records_of (drop r.bytes a ++ b) in
-    let added = counted-from n r.records r.bytes 0 0 r.ledger rest in
+    let added = counted_from n r.records r.bytes 0 0 r.ledger rest in
     in_pieces n l a b ∙ subst (λ (k : ℕ). run_from n k r.bytes r.ledger rest ≡ counting r.records r.bytes (run_from n 0 0 r.ledger rest)) (add-zero r.records)
     (subst (λ (c : ℕ). run_from n (r.records + 0) c r.ledger rest ≡ counting r.records r.bytes (run_from n 0 0 r.ledger rest)) (add-zero r.bytes) added)
 

@@ -10,7 +10,7 @@ use Rattle.stream.specs.Run.{run}
 use Rattle.pieces.specs.Step.{Next, goes_on, decided, Step, may_go_on, step}
 use Rattle.pieces.specs.Pieces.{begun, behind, onward, is_last, Room, AllRoom}
 use Rattle.pieces.specs.Longest.{longest}
-use Rattle.pieces.proofs.CellPieces.{marks_again, little-left}
+use Rattle.pieces.proofs.CellPieces.{marks_again, little_left}
 
 -- ---- one step
 
@@ -22,9 +22,9 @@ module _ (n k c : ℕ) (s : Session) (t : Tables) (marks : length s.marks ≡ mo
   rest = drop (run n s t held).bytes held
 
   -- what stays is less than the longest record
-  pub kept-short : (last : Bool) {kept : ℕ} → (step n k c s t buffer count last).next ≡ goes_on kept → kept < longest
+  pub kept_short : (last : Bool) {kept : ℕ} → (step n k c s t buffer count last).next ≡ goes_on kept → kept < longest
   unfolding step
-  kept-short last {kept} e = by last (may_go_on (run n s t held).stop) refl e
+  kept_short last {kept} e = by last (may_go_on (run n s t held).stop) refl e
     where
       by : (last may : Bool) → may_go_on (run n s t held).stop ≡ may
           → cond (not last && may) (goes_on (length rest)) (decided (run n s t held).stop) ≡ goes_on kept → kept < longest
@@ -32,7 +32,7 @@ module _ (n k c : ℕ) (s : Session) (t : Tables) (marks : length s.marks ≡ mo
       by false false m e = never (cc)
       by false true m e =
           let same : length rest ≡ kept = cc in
-          let h = little-left n s t marks held (true→T m) in
+          let h = little_left n s t marks held (true→T m) in
           omega (arith, length-drop (run n s t held).bytes held)
 
   -- and the buffer keeps its length
@@ -50,8 +50,8 @@ record Ready (size : ℕ) (r : Step) : Type 0 where
   whole : length r.buffer ≡ size
   short : {kept : ℕ} → r.next ≡ goes_on kept → kept < longest
 
-behind-size : (kept : ℕ) (p buffer : List ℕ) → kept + length p ≤ length buffer → length (behind kept p buffer) ≡ length buffer
-behind-size kept p buffer h = let e = length-take-le kept buffer (omega arith) in simp (length-append, length-drop) (omega arith)
+behind_size : (kept : ℕ) (p buffer : List ℕ) → kept + length p ≤ length buffer → length (behind kept p buffer) ≡ length buffer
+behind_size kept p buffer h = let e = length-take-le kept buffer (omega arith) in simp (length-append, length-drop) (omega arith)
 
 module _ (n size : ℕ) (r : Step) (ready : Ready size r) (p : List ℕ) (fits : longest + length p ≤ size) where
   one_ready : (last : Bool) → Room r p × Ready size (onward n r p last)
@@ -68,8 +68,8 @@ module _ (n size : ℕ) (r : Step) (ready : Ready size r) (p : List ℕ) (fits :
             room,
             record {
               marks = marks_again n r.session r.tables ready.marks (take count x);
-              whole = same_size n r.records r.bytes r.session r.tables ready.marks x count last ∙ behind-size kept p r.buffer room ∙ ready.whole;
-              short = kept-short n r.records r.bytes r.session r.tables ready.marks x count last;
+              whole = same_size n r.records r.bytes r.session r.tables ready.marks x count last ∙ behind_size kept p r.buffer room ∙ ready.whole;
+              short = kept_short n r.records r.bytes r.session r.tables ready.marks x count last;
             },
           )
 

@@ -20,8 +20,8 @@ use Rattle.session.specs.declared.answers.Verdict.{Verdict}
 use Rattle.session.specs.declared.answers.Verdict.TheVariants.{Pass, Fail}
 use Rattle.literals.specs.Sorting.{sorted}
 use Rattle.literals.proofs.Filler.{front}
-use Rattle.literals.proofs.SortLaws.{sorted-line}
-use Rattle.ledger.proofs.LiteralLaws.{different-unnegated, length-line_of-different}
+use Rattle.literals.proofs.SortLaws.{sorted_line}
+use Rattle.ledger.proofs.LiteralLaws.{different_unnegated, length_line_of_different}
 use Rattle.session.specs.declared.answers.Refusal.{Refusal}
 use Rattle.proposals.specs.declared.NewLine.{NewLine}
 use Rattle.proposals.specs.declared.Proposal.{Proposal}
@@ -47,12 +47,12 @@ module _ (n : ℕ) (fs : List Form) (ls : List Line) (q : Rule) {r : Proposal} {
 
 -- ---- by a verdict
 
-pub refused-by : {v : Verdict} {why : Refusal} (x : New) (xs ys : List ℕ) → v ≡ Fail why → ProposesBy v x (Refused why) xs ys
-refused-by x xs ys e = λ cells. record { says = ap (λ (w : Verdict). proposed_by (finding_of w) x) (sym e); fits = tt }
+pub refused_by : {v : Verdict} {why : Refusal} (x : New) (xs ys : List ℕ) → v ≡ Fail why → ProposesBy v x (Refused why) xs ys
+refused_by x xs ys e = λ cells. record { says = ap (λ (w : Verdict). proposed_by (finding_of w) x) (sym e); fits = tt }
 
-derived-by : {v : Verdict} (x : NewLine) (xs ys line : List ℕ) → v ≡ Pass → x.origin ≡ derived → line_from x xs ys ≡ line → Within x xs ys
+derived_by : {v : Verdict} (x : NewLine) (xs ys line : List ℕ) → v ≡ Pass → x.origin ≡ derived → line_from x xs ys ≡ line → Within x xs ys
     → ProposesBy v (derived_line line) (Makes x) xs ys
-derived-by x xs ys line e o l c =
+derived_by x xs ys line e o l c =
     λ cells. record {
       says =
           ap₂ (λ (k : ℕ) (zs : List ℕ). proposes (new_line (record { origin = k; literals = zs }))) o l
@@ -69,7 +69,7 @@ pub two_made : {v : Verdict} (xs ys : List ℕ) (x y : ℕ) → v ≡ Pass → S
 two_made xs ys x y e s =
     let (a, p) = one_set xs x (omega (arith, s.first)) in
     let (b, q) = one_set ys y (omega (arith, s.second)) in
-    derived-by (derived_from 1 1) (set xs 0 x) (set ys 0 y) (line_of (x ∷ y ∷ [])) e refl (ap₂ (λ (l r : List ℕ). joined l r) a b)
+    derived_by (derived_from 1 1) (set xs 0 x) (set ys 0 y) (line_of (x ∷ y ∷ [])) e refl (ap₂ (λ (l r : List ℕ). joined l r) a b)
     (record { first = omega (arith, s.first); second = omega (arith, s.second) })
 
 pub three_made : {v : Verdict} (xs out more : List ℕ) (x y z m : ℕ) → v ≡ Pass → 1 ≤ length xs
@@ -78,25 +78,25 @@ pub three_made : {v : Verdict} (xs out more : List ℕ) (x y z m : ℕ) → v �
 three_made xs out more x y z m e s d o =
     let (a, p) = one_set xs x s in
     let (w, b) = front (joined (y ∷ []) (z ∷ [])) more out m d o in
-    derived-by (derived_from 1 m) (set xs 0 x) out (line_of (x ∷ y ∷ z ∷ [])) e refl
+    derived_by (derived_from 1 m) (set xs 0 x) out (line_of (x ∷ y ∷ z ∷ [])) e refl
     (ap₂ (λ (l r : List ℕ). joined l r) a (simp sub-zero at b))
     (record { first = omega arith; second = w })
 
-pub negated-made : {v : Verdict} (picks xs out : List ℕ) → v ≡ Pass → length picks ≤ length out → take (length picks) out ≡ map negated picks
+pub negated_made : {v : Verdict} (picks xs out : List ℕ) → v ≡ Pass → length picks ≤ length out → take (length picks) out ≡ map negated picks
     → ProposesBy v (derived_line (map negated picks)) (Makes (derived_from 0 (length picks))) xs out
-negated-made picks xs out e h d =
-    derived-by (derived_from 0 (length picks)) xs out (map negated picks) e refl d
+negated_made picks xs out e h d =
+    derived_by (derived_from 0 (length picks)) xs out (map negated picks) e refl d
     (record { first = omega arith; second = h })
 
-pub unnegated-made : {v : Verdict} (picks xs out ys more : List ℕ) → v ≡ Pass → T (different picks)
+pub unnegated_made : {v : Verdict} (picks xs out ys more : List ℕ) → v ≡ Pass → T (different picks)
     → take (length picks) out ≡ map (λ f. 2 * f + 0) picks → ys ≡ sorted (take (length picks - 0) out)
     → ProposesBy v (derived_line (line_of (map unnegated picks))) (Makes (derived_from 0 (length picks))) xs (ys ++ more)
-unnegated-made picks xs out ys more e differ d o =
+unnegated_made picks xs out ys more e differ d o =
     let plain : map (λ f. 2 * f + 0) picks ≡ map unnegated picks = ap (λ (f : ℕ → ℕ). map f picks) (λ i f. add-zero (2 * f) i) in
     let line = map unnegated picks in
-    let apart = different-unnegated picks differ in
-    let made : ys ≡ line_of line = o ∙ ap sorted (rw sub-zero (d ∙ plain)) ∙ sorted-line line apart in
-    let many : length picks ≡ length ys = sym (ap length made ∙ length-line_of-different line apart ∙ length-map picks unnegated) in
+    let apart = different_unnegated picks differ in
+    let made : ys ≡ line_of line = o ∙ ap sorted (rw sub-zero (d ∙ plain)) ∙ sorted_line line apart in
+    let many : length picks ≡ length ys = sym (ap length made ∙ length_line_of_different line apart ∙ length-map picks unnegated) in
     let (w, b) = front ys more (ys ++ more) (length picks) many refl in
-    derived-by (derived_from 0 (length picks)) xs (ys ++ more) (line_of line) e refl (rw sub-zero at b ∙ made)
+    derived_by (derived_from 0 (length picks)) xs (ys ++ more) (line_of line) e refl (rw sub-zero at b ∙ made)
     (record { first = omega arith; second = w })

@@ -13,7 +13,7 @@ use Rattle.ledger.specs.Settles.{Proposal}
 use Rattle.records.specs.declared.marks.RuleMark.{RuleMark}
 use Rattle.records.specs.Marks.{rule_mark_of, OfMark}
 use Rattle.fields.specs.Fields.{Listed}
-use Rattle.records.proofs.WholeLaws.{fixed-whole, counted-whole}
+use Rattle.records.proofs.WholeLaws.{fixed_whole, counted_whole}
 use Rattle.proposals.specs.declared.Proposal.{Proposal as Code}
 use Rattle.proposals.specs.Proposing.{Proposes}
 
@@ -35,7 +35,7 @@ module _ (b : List ℕ) {m m' : RuleMark} (e : m ≡ m') (h : OfMark b (of_rule 
   its = rule_layout (rule_mark_of m')
 
   pub fixed_of : its.counted ≡ false → length b ≡ its.bytes
-  fixed_of u = fixed-whole b (of_rule (rule_mark_of m')) borne.bearing borne.shaped u ∙ simp (mul-zero, add-zero)
+  fixed_of u = fixed_whole b (of_rule (rule_mark_of m')) borne.bearing borne.shaped u ∙ simp (mul-zero, add-zero)
 
   pub counted_of : its.counted ≡ true → Listed its.place its.each its.least its.most b
-  counted_of u = counted-whole b (of_rule (rule_mark_of m')) borne.bearing borne.shaped u
+  counted_of u = counted_whole b (of_rule (rule_mark_of m')) borne.bearing borne.shaped u

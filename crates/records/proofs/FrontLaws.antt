@@ -5,7 +5,7 @@ use Prim.Native.Nat.{ℕ, ◌≤◌}
 use lib.ListN.{length}
 use Rattle.ledger.specs.Record.{RecordMark}
 use Rattle.ledger.specs.Run.{Requires}
-use Rattle.ledger.proofs.FrontLaws.{same-mark}
+use Rattle.ledger.proofs.FrontLaws.{same_mark_lem}
 use Rattle.records.specs.Marks.{Whole}
 
 module _ {b : List ℕ} {m : RecordMark} {required : ℕ} (r : Requires b m required) where
@@ -13,6 +13,6 @@ module _ {b : List ℕ} {m : RecordMark} {required : ℕ} (r : Requires b m requ
   there_whole l =
       record {
         within = l;
-        taken = rw r.front-is;
-        record_of = record { shaped = r.right l; bearing = same-mark required b r.two ∙ r.known };
+        taken = rw r.front_is;
+        record_of = record { shaped = r.right l; bearing = same_mark_lem required b r.two ∙ r.known };
       }

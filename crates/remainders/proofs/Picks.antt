@@ -8,11 +8,11 @@ use lib.IntN.{ℤ, pos}
 use lib.ListN.{length, get_or, take}
 use Rattle.ints.specs.Tests.{eq_z, all, different}
 use Rattle.ints.proofs.Bools.{T_and}
-use Rattle.ints.proofs.Lists.{all_at, all_agree, length-up_to}
+use Rattle.ints.proofs.Lists.{all_at, all_agree, length_up_to}
 use Rattle.rows.specs.Form.{Form, form_at}
 use Rattle.rows.specs.Summable.{row_at}
 use Rattle.rows.specs.Conditions.{divided_by}
-use Rattle.rows.proofs.Remainders.{divisor-says}
+use Rattle.rows.proofs.Remainders.{divisor_says}
 use Rattle.literals.specs.Lists.{Low}
 use Rattle.ledger.specs.Limits.{longest_line}
 use Rattle.ledger.specs.Ledger.{nth_form, nth_row}
@@ -24,26 +24,26 @@ use Rattle.ledger.proofs.Findings.{pass→passed}
 use Rattle.ledger.proofs.Remainders.{remainders_differ}
 use Rattle.fields.specs.Fields.{Listed, NumbersRead}
 use Rattle.rules.specs.Read.{FormsHeld, forms_in}
-use Rattle.rules.proofs.HeldLaws.{form-count, form-is, form-legal, in_force}
+use Rattle.rules.proofs.HeldLaws.{form_count, form_is, form_legal, in_force}
 use Rattle.rules.proofs.FieldLaws.{low_form}
 
 module _ {n many : ℕ} {cells : List ℤ} (h : FormsHeld n many cells) where
   -- ---- the tests, by the cells
 
-  pub forms-read : (ps : List ℕ) → all (form_in (forms_in n many cells)) ps ≡ in_force many ps
-  forms-read ps = ap (λ (k : ℕ). all (λ f. ltb f k) ps) (form-count h)
+  pub forms_read : (ps : List ℕ) → all (form_in (forms_in n many cells)) ps ≡ in_force many ps
+  forms_read ps = ap (λ (k : ℕ). all (λ f. ltb f k) ps) (form_count h)
 
   pub divided_read : (ps : List ℕ) → T (in_force many ps) → (d : ℕ) → 1 ≤ d
       → all (λ g. divided_by (pos d) (nth_form (forms_in n many cells) g)) ps ≡ all (λ f. eq_z (form_at n cells f).divisor (pos d)) ps
   divided_read ps k d l =
       all_agree (λ f. ltb f many) (λ g. divided_by (pos d) (nth_form (forms_in n many cells) g)) (λ f. eq_z (form_at n cells f).divisor (pos d))
-      (λ f i. rw (form-is h f (ltb→lt _ _ i)) (divisor-says n (form_at n cells f) d (form-legal h f (ltb→lt _ _ i)) l)) ps k
+      (λ f i. rw (form_is h f (ltb→lt _ _ i)) (divisor_says n (form_at n cells f) d (form_legal h f (ltb→lt _ _ i)) l)) ps k
 
   pub rows_read : (ps : List ℕ) → T (in_force many ps) → map (nth_row (forms_in n many cells)) ps ≡ map (row_at n cells) ps
   rows_read [] k = refl
   rows_read (p ∷ ps) k =
       let (i, rest) = T_and (ltb p many) (in_force many ps) k in
-      let row : nth_row (forms_in n many cells) p ≡ row_at n cells p = ap (λ (f : Form). f.row) (form-is h p (ltb→lt _ _ i)) in
+      let row : nth_row (forms_in n many cells) p ≡ row_at n cells p = ap (λ (f : Form). f.row) (form_is h p (ltb→lt _ _ i)) in
       rw (row, rows_read ps rest)
 
   -- ---- where they pass
@@ -66,7 +66,7 @@ module _ {b : List ℕ} {k : ℕ} {cells : List ℕ} (e : NumbersRead behind_let
 
   module _ (w : Listed behind_letters 2 1 longest_line b) where
     pub lent_some : 1 ≤ length (take (k - 0) cells)
-    lent_some = rw (lent, length-up_to) w.some
+    lent_some = rw (lent, length_up_to) w.some
 
     pub lent_few : length (take (k - 0) cells) ≤ longest_line
-    lent_few = rw (lent, length-up_to) w.few
+    lent_few = rw (lent, length_up_to) w.few

@@ -15,7 +15,7 @@ use Rattle.ledger.specs.Apply.{Finding, pass, fail, finding}
 use Rattle.session.specs.Cells.{literals_at}
 use Rattle.literals.specs.Lists.{Gathered}
 use Rattle.rules.specs.Read.{LinesHeld, lines_in}
-use Rattle.rules.proofs.HeldLaws.{line-count, line-is}
+use Rattle.rules.proofs.HeldLaws.{line_count, line_is}
 use Rattle.rules.proofs.FindingWalk.{whole, past, fails, passes}
 use Rattle.literals.proofs.LessLaws.{left_is, none_lost, some_lost}
 
@@ -38,10 +38,10 @@ parent e g l = record { same = e; got = g; room = l }
 
 module _ {many : ℕ} {pool lines : List ℕ} (h : LinesHeld many pool lines) where
   line_in_lem : (i : ℕ) → i < many → line_in (lines_in many pool lines) i ≡ true
-  line_in_lem i k = rw (line-count h) (lt-ltb i many k)
+  line_in_lem i k = rw (line_count h) (lt-ltb i many k)
 
   line_out : (i : ℕ) → many ≤ i → line_in (lines_in many pool lines) i ≡ false
-  line_out i k = rw (line-count h) (le-ltb i many k)
+  line_out i k = rw (line_count h) (le-ltb i many k)
 
   -- over any forms of this number
   module _ (n forms : ℕ) (fs : List Form) (e : length fs ≡ forms) (p i j : ℕ) where
@@ -64,7 +64,7 @@ module _ {many : ℕ} {pool lines : List ℕ} (h : LinesHeld many pool lines) wh
     pub read : p < forms → i < many → j < many → {v : Finding} → v ≡ finding (left p (literals_at pool lines i) (literals_at pool lines j))
         → v ≡ finding (tests n fs (lines_in many pool lines) (RS p i j))
     unfolding tests finding
-    read a b c d = rw (pivot_in a, line_in_lem i b, line_in_lem j c, line-is h i b, line-is h j c) d
+    read a b c d = rw (pivot_in a, line_in_lem i b, line_in_lem j c, line_is h i b, line_is h j c) d
 
     -- the pivot and both parents are in force, and what the first leaves is gathered
     module _ (a : p < forms) (b : i < many) (c : j < many) {line xs : List ℕ} {k : ℕ} (u : Parent line (literals_at pool lines i) (unnegated p) k xs) where
@@ -108,4 +108,4 @@ module _ {many : ℕ} {pool lines : List ℕ} (h : LinesHeld many pool lines) wh
               ap (λ (x : List ℕ). derived_line x)
               (both_left
               ∙ sym
-              (ap₂ (λ (x y : List ℕ). joined (without (unnegated p) x) (without (negated p) y)) (line-is h i b) (line-is h j c)))
+              (ap₂ (λ (x y : List ℕ). joined (without (unnegated p) x) (without (negated p) y)) (line_is h i b) (line_is h j c)))

@@ -10,10 +10,10 @@ use lib.Seq.{get_or-take, get_or-drop, drop-drop, take-nil}
 use Rattle.rows.specs.Form.{form_at}
 use Rattle.rows.specs.Summable.{row_at, Inside}
 
-drop-take : {A : Type 0} (m k : ℕ) (l : List A) → drop m (take (m + k) l) ≡ take k (drop m l)
-drop-take zero k l = let e : 0 + k ≡ k = omega arith in rw e
-drop-take (suc m) k [] = let e : suc m + k ≡ suc (m + k) = omega arith in rw e (sym (take-nil k))
-drop-take (suc m) k (x ∷ l) = let e : suc m + k ≡ suc (m + k) = omega arith in rw e (drop-take m k l)
+drop_take : {A : Type 0} (m k : ℕ) (l : List A) → drop m (take (m + k) l) ≡ take k (drop m l)
+drop_take zero k l = let e : 0 + k ≡ k = omega arith in rw e
+drop_take (suc m) k [] = let e : suc m + k ≡ suc (m + k) = omega arith in rw e (sym (take-nil k))
+drop_take (suc m) k (x ∷ l) = let e : suc m + k ≡ suc (m + k) = omega arith in rw e (drop_take m k l)
 
 module _ (n : ℕ) (table : List ℤ) (f : ℕ) where
   pub kind_at : get_or table ((n + 3) * f) (pos 0) ≡ (form_at n table f).kind
@@ -28,8 +28,8 @@ module _ (n : ℕ) (table : List ℤ) (f : ℕ) where
   row_at_lem =
       let e : (n + 3) * f + 2 + (n + 1) - ((n + 3) * f + 2) ≡ n + 1 = omega arith in
       let d : n + 3 ≡ 2 + (n + 1) = omega arith in
-      rw e (sym (ap (λ (k : ℕ). drop 2 (take k (drop ((n + 3) * f) table))) d ∙ drop-take 2 (n + 1) (drop ((n + 3) * f) table) ∙ ap (take (n + 1)) (drop-drop 2 ((n + 3) * f) table)))
+      rw e (sym (ap (λ (k : ℕ). drop 2 (take k (drop ((n + 3) * f) table))) d ∙ drop_take 2 (n + 1) (drop ((n + 3) * f) table) ∙ ap (take (n + 1)) (drop-drop 2 ((n + 3) * f) table)))
 
-  pub length-row : Inside n table f → length (row_at n table f) ≡ n + 1
-  length-row h =
+  pub length_row : Inside n table f → length (row_at n table f) ≡ n + 1
+  length_row h =
       rw length-drop (let e : length (take (n + 3) (drop ((n + 3) * f) table)) ≡ n + 3 = simp (length-take, length-drop) (omega arith) in omega arith)

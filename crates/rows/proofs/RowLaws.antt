@@ -12,7 +12,7 @@ use Rattle.ints.specs.Tests.{eq_z, eq_zs}
 use Rattle.ints.proofs.Ring.{one_mul}
 use Rattle.rows.specs.Row.{Row, scaled, shifted}
 use Rattle.rows.specs.Summable.{row_at, Inside}
-use Rattle.rows.proofs.FormCells.{length-row}
+use Rattle.rows.proofs.FormCells.{length_row}
 
 pub scaled_one : (r : Row) → scaled (pos 1) r ≡ r
 scaled_one [] = refl
@@ -24,7 +24,7 @@ unshifted m (k ∷ r) h = ap (λ (z : ℤ). z ∷ scaled m r) (+ℤ_idl (m *ℤ 
 
 -- a row in a table has a constant
 pub filled : (n : ℕ) (table : List ℤ) (f : ℕ) → Inside n table f → 0 < length (row_at n table f)
-filled n table f h = omega (arith, length-row n table f h)
+filled n table f h = omega (arith, length_row n table f h)
 
 -- what `&xs[1..]` lends
 pub tail : (xs : List ℤ) → take (length xs - 1) (drop 1 xs) ≡ drop 1 xs

@@ -24,29 +24,29 @@ use Rattle.rows.specs.Summable.{terms, summand, summable, Summable}
 abbrev pub term : ℕ → ℤ → Term
 term f m = record { form = f; multiplier = m }
 
-terms-nil : (ps : List ℕ) → terms ps [] ≡ []
-terms-nil [] = refl
-terms-nil (f ∷ ps) = refl
+terms_nil : (ps : List ℕ) → terms ps [] ≡ []
+terms_nil [] = refl
+terms_nil (f ∷ ps) = refl
 
-pub drop-terms : (i : ℕ) (ps : List ℕ) (ms : List ℤ) → drop i (terms ps ms) ≡ terms (drop i ps) (drop i ms)
-drop-terms zero ps ms = refl
-drop-terms (suc i) [] ms = refl
-drop-terms (suc i) (f ∷ ps) [] = sym (terms-nil (drop i ps))
-drop-terms (suc i) (f ∷ ps) (m ∷ ms) = drop-terms i ps ms
+pub drop_terms : (i : ℕ) (ps : List ℕ) (ms : List ℤ) → drop i (terms ps ms) ≡ terms (drop i ps) (drop i ms)
+drop_terms zero ps ms = refl
+drop_terms (suc i) [] ms = refl
+drop_terms (suc i) (f ∷ ps) [] = sym (terms_nil (drop i ps))
+drop_terms (suc i) (f ∷ ps) (m ∷ ms) = drop_terms i ps ms
 
-pub length-terms : (ps : List ℕ) (ms : List ℤ) → length ps ≡ length ms → length (terms ps ms) ≡ length ps
-length-terms [] ms e = refl
-length-terms (f ∷ ps) [] e = absurd (omega arith)
-length-terms (f ∷ ps) (m ∷ ms) e = ap suc (length-terms ps ms (omega arith))
+pub length_terms : (ps : List ℕ) (ms : List ℤ) → length ps ≡ length ms → length (terms ps ms) ≡ length ps
+length_terms [] ms e = refl
+length_terms (f ∷ ps) [] e = absurd (omega arith)
+length_terms (f ∷ ps) (m ∷ ms) e = ap suc (length_terms ps ms (omega arith))
 
 module _ (ps : List ℕ) (ms : List ℤ) (i : ℕ) (e : length ps ≡ length ms) (h : i < length ps) where
-  pub next-term : terms (drop i ps) (drop i ms) ≡ term (get_or ps i 0) (get_or ms i (pos 0)) ∷ terms (drop (i + 1) ps) (drop (i + 1) ms)
-  next-term = rw (add-one, drop-cons ps i 0 h, drop-cons ms i (pos 0) (omega arith))
+  pub next_term : terms (drop i ps) (drop i ms) ≡ term (get_or ps i 0) (get_or ms i (pos 0)) ∷ terms (drop (i + 1) ps) (drop (i + 1) ms)
+  next_term = rw (add-one, drop-cons ps i 0 h, drop-cons ms i (pos 0) (omega arith))
 
   pub term_at : (d : Term) → get_or (terms ps ms) i d ≡ term (get_or ps i 0) (get_or ms i (pos 0))
   term_at d =
       ap (λ (k : ℕ). get_or (terms ps ms) k d) (sym (add-zero i)) ∙ sym (get_or-drop i (terms ps ms) 0 d)
-      ∙ ap (λ (l : List Term). get_or l 0 d) (drop-terms i ps ms ∙ next-term)
+      ∙ ap (λ (l : List Term). get_or l 0 d) (drop_terms i ps ms ∙ next_term)
 
 -- ---- what may be summed
 
@@ -65,8 +65,8 @@ module _ (n : ℕ) (t : List ℤ) where
 
   module _ (ps : List ℕ) (ms : List ℤ) where
     -- few terms, and as many forms as multipliers: what is left to test is each term
-    pub summable-is : length ps ≤ most_terms → length ps ≡ length ms → summable n t ps ms ≡ all (summand n t) (terms ps ms)
-    summable-is f e = simp (le-leb (length ps) most_terms f, eq-eqb (length ps) (length ms) e)
+    pub summable_is : length ps ≤ most_terms → length ps ≡ length ms → summable n t ps ms ≡ all (summand n t) (terms ps ms)
+    summable_is f e = simp (le-leb (length ps) most_terms f, eq-eqb (length ps) (length ms) e)
 
     pub summable→ : summable n t ps ms ≡ true → Summable n t ps ms
     summable→ e =
@@ -74,14 +74,14 @@ module _ (n : ℕ) (t : List ℤ) where
         let (f, p) = T_and (leb (length ps) most_terms) _ h in
         record { few = leb→le (length ps) most_terms f; paired = eqb→eq (length ps) (length ms) p; summands = s }
 
-    pub not-summable : (Summable n t ps ms → ⊥) → summable n t ps ms ≡ false
-    not-summable f = T→false (summable n t ps ms) (λ s. f (summable→ (T→true (summable n t ps ms) s)))
+    pub not_summable : (Summable n t ps ms → ⊥) → summable n t ps ms ≡ false
+    not_summable f = T→false (summable n t ps ms) (λ s. f (summable→ (T→true (summable n t ps ms) s)))
 
 pub summand_at : {n : ℕ} {t : List ℤ} {ps : List ℕ} {ms : List ℤ} →
     Summable n t ps ms → (i : ℕ) → i < length ps → Summand n t (get_or ps i 0) (get_or ms i (pos 0))
 summand_at {n} {t} {ps} {ms} s i h =
     let none = term 0 (pos 0) in
-    let l : length (terms ps ms) ≡ length ps = length-terms ps ms s.paired in
+    let l : length (terms ps ms) ≡ length ps = length_terms ps ms s.paired in
     summand→ n t (get_or ps i 0) (get_or ms i (pos 0))
     (subst (λ (x : Term). T (summand n t x)) (term_at ps ms i s.paired h none)
     (all_at (summand n t) (terms ps ms) i none s.summands (omega arith)))

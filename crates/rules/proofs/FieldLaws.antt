@@ -28,15 +28,15 @@ use Rattle.proposals.specs.declared.Proposal.TheVariants.{Refused, Form as Makes
 use Rattle.proposals.specs.Proposing.{premise_from, Proposes}
 use Rattle.proposals.proofs.Making.{refusing, making}
 use Rattle.rules.specs.Read.{FormsHeld, forms_in, ProposesRule}
-use Rattle.rules.proofs.HeldLaws.{form-count, form-is, form-inside}
+use Rattle.rules.proofs.HeldLaws.{form_count, form_is, form_inside}
 use Rattle.rules.proofs.FindingWalk.{whole, past, fails, passes}
 
 -- ---- tests in front of others
 
 module _ (cs ds : List Check) {v : Verdict} (e : finding_of v ≡ finding cs) where
   -- they fail
-  pub fails-first : {why : Refusal} → v ≡ Fail why → fail (number_of why) ≡ finding (cs ++ ds)
-  fails-first {why} f = sym (fail_append cs ds (number_of why) (sym e ∙ ap finding_of f))
+  pub fails_first : {why : Refusal} → v ≡ Fail why → fail (number_of why) ≡ finding (cs ++ ds)
+  fails_first {why} f = sym (fail_append cs ds (number_of why) (sym e ∙ ap finding_of f))
 
   -- they pass, so that the others decide
   pub others_decide : v ≡ Pass → {w : Finding} → w ≡ finding ds → w ≡ finding (cs ++ ds)
@@ -50,7 +50,7 @@ of_fields n many fs r xs ys e p = subst (λ (q : Rule). ProposesRule n many fs q
 
 module _ {n many : ℕ} {cells : List ℤ} (h : FormsHeld n many cells) where
   pub low_form : (f : ℕ) → T (form_in (forms_in n many cells) f) → f < most_forms
-  low_form f i = omega (arith, ltb→lt f many (rw (form-count h) at i), h.few)
+  low_form f i = omega (arith, ltb→lt f many (rw (form_count h) at i), h.few)
 
   pub low_two : (a b : ℕ) (cs : List Check) {v : Finding}
       → v ≡ finding ((form_in (forms_in n many cells) a else 8) ∷ (form_in (forms_in n many cells) b else 8) ∷ cs)
@@ -79,13 +79,13 @@ module _ {n many : ℕ} {cells : List ℤ} (h : FormsHeld n many cells) (j k : �
   both_in = let q = pass→passed (both_are (forms_in n many cells) j a k b) (sym e ∙ ap finding_of p) in (q.0, q.1.0)
 
   pub both_below : (a < many) × (b < many)
-  both_below = (ltb→lt a many (rw (form-count h) at both_in.0), ltb→lt b many (rw (form-count h) at both_in.1))
+  both_below = (ltb→lt a many (rw (form_count h) at both_in.0), ltb→lt b many (rw (form_count h) at both_in.1))
 
   pub both_low : (a < most_forms) × (b < most_forms)
   both_low = (low_form h a both_in.0, low_form h b both_in.1)
 
   pub both_inside : Inside n cells a × Inside n cells b
-  both_inside = (form-inside h a both_below.0, form-inside h b both_below.1)
+  both_inside = (form_inside h a both_below.0, form_inside h b both_below.1)
 
   -- the condition on them, or on their rows, decides
 
@@ -93,7 +93,7 @@ module _ {n many : ℕ} {cells : List ℤ} (h : FormsHeld n many cells) (j k : �
       → w ≡ finding ((c else 11) ∷ [])
       → w ≡ finding ((test (nth_form (forms_in n many cells) a) (nth_form (forms_in n many cells) b) else 11) ∷ [])
   then_forms test g d =
-      let forms = ap₂ test (form-is h a both_below.0) (form-is h b both_below.1) in
+      let forms = ap₂ test (form_is h a both_below.0) (form_is h b both_below.1) in
       d ∙ ap (λ (t : Bool). finding ((t else 11) ∷ [])) (g ∙ sym forms)
 
   pub then_rows : {c : Bool} {w : Finding} (test : Row → Row → Bool) → c ≡ test (row_at n cells a) (row_at n cells b)
@@ -104,26 +104,26 @@ module _ {n many : ℕ} {cells : List ℤ} (h : FormsHeld n many cells) (j k : �
 -- ---- FM and PM
 
 module _ (n : ℕ) (fs : List Form) (ls : List Line) (cells : List ℤ) (xs ys : List ℕ) where
-  pub form-refused : (f : Form) → legal n f ≡ false → Proposes (Refused IllegalContent) cells xs ys (proposed n fs ls (make (FM f)))
+  pub form_refused : (f : Form) → legal n f ≡ false → Proposes (Refused IllegalContent) cells xs ys (proposed n fs ls (make (FM f)))
   unfolding tests
-  form-refused f e = refusing n fs ls (FM f) cells xs ys (fails whole e)
+  form_refused f e = refusing n fs ls (FM f) cells xs ys (fails whole e)
 
-  pub form-made : (f : Form) → form_of cells ≡ f → legal n f ≡ true → Proposes MakesForm cells xs ys (proposed n fs ls (make (FM f)))
+  pub form_made : (f : Form) → form_of cells ≡ f → legal n f ≡ true → Proposes MakesForm cells xs ys (proposed n fs ls (make (FM f)))
   unfolding proposed tests makes
-  form-made f d e =
+  form_made f d e =
       record {
         says = ap (λ (x : Form). proposes (new_form x)) d ∙ ap (λ (v : Finding). proposed_by v (new_form f)) (passes (past whole e));
         fits = tt;
       }
 
-  pub premise-refused : {v : Verdict} {why : Refusal} (zs : List ℕ) → v ≡ Fail why → finding_of v ≡ finding (tests n fs [] (PM zs))
+  pub premise_refused : {v : Verdict} {why : Refusal} (zs : List ℕ) → v ≡ Fail why → finding_of v ≡ finding (tests n fs [] (PM zs))
       → Proposes (Refused why) cells xs ys (proposed n fs ls (make (PM zs)))
   unfolding tests
-  premise-refused zs e d = refusing n fs ls (PM zs) cells xs ys (sym (ap finding_of e) ∙ d)
+  premise_refused zs e d = refusing n fs ls (PM zs) cells xs ys (sym (ap finding_of e) ∙ d)
 
-  pub premise-made : {v : Verdict} (k : ℕ) → v ≡ Pass → k ≤ length ys → finding_of v ≡ finding (tests n fs [] (PM (take k ys)))
+  pub premise_made : {v : Verdict} (k : ℕ) → v ≡ Pass → k ≤ length ys → finding_of v ≡ finding (tests n fs [] (PM (take k ys)))
       → Proposes (Makes (premise_from k)) cells xs ys (proposed n fs ls (make (PM (take k ys))))
   unfolding tests makes
-  premise-made k e h d =
+  premise_made k e h d =
       making n fs ls (PM (take k ys)) cells xs ys (sym (ap finding_of e) ∙ d) refl
       (record { first = omega arith; second = h })

@@ -59,10 +59,10 @@ a & b = (a, b)
 -- ---- the clauses
 
 pub record Clauses (n : ℕ) (s : Session) (t : Tables) : Type 0 where
-  pub few-forms : s.forms ≤ most_forms
-  pub few-lines : s.lines ≤ most_lines
-  pub few-literals : s.literals ≤ most_literals
-  pub few-levels : s.«open» ≤ most_levels
+  pub few_forms : s.forms ≤ most_forms
+  pub few_lines : s.lines ≤ most_lines
+  pub few_literals : s.literals ≤ most_literals
+  pub few_levels : s.«open» ≤ most_levels
   pub contents : (f : ℕ) → f < s.forms → T (legal n (form_at n t.forms f))
   pub rise : (i : ℕ) → i < s.lines → end_before t.lines i ≤ end_before t.lines (suc i)
   pub short : (i : ℕ) → i < s.lines → end_before t.lines (suc i) ≤ end_before t.lines i + longest_line
@@ -70,29 +70,29 @@ pub record Clauses (n : ℕ) (s : Session) (t : Tables) : Type 0 where
   pub origins : (i : ℕ) → i < s.lines → T (is_origin (origin_at t.lines i))
   pub ascends : (i : ℕ) → i < s.lines → T (ascending (literals_at t.pool t.lines i))
   pub names : (i : ℕ) → i < s.lines → T (names_below s.forms (literals_at t.pool t.lines i))
-  pub marks-rise : (k : ℕ) → k < s.«open» - 1 → T (not_above (mark_at s k) (mark_at s (suc k)))
-  pub marks-held : (k : ℕ) → k < s.«open» → T (not_above (mark_at s k) (counts_of s))
-  pub marks-end : (k : ℕ) → k < s.«open» → (mark_at s k).literals ≡ end_before t.lines (mark_at s k).lines
+  pub marks_rise : (k : ℕ) → k < s.«open» - 1 → T (not_above (mark_at s k) (mark_at s (suc k)))
+  pub marks_held : (k : ℕ) → k < s.«open» → T (not_above (mark_at s k) (counts_of s))
+  pub marks_end : (k : ℕ) → k < s.«open» → (mark_at s k).literals ≡ end_before t.lines (mark_at s k).lines
   pub marks_name : (k : ℕ) → k < s.«open» → (i : ℕ) → i < (mark_at s k).lines
       → T (names_below (mark_at s k).forms (literals_at t.pool t.lines i))
-  pub forms-zero : T (all (λ c. eq_z c (pos 0)) (drop (form_cells n * s.forms) t.forms))
-  pub pool-zero : T (all (λ c. eqb c 0) (drop s.literals t.pool))
-  pub lines-zero : T (all (λ c. eqb c 0) (drop (line_cells * s.lines) t.lines))
-  pub marks-zero : T (all is_no_mark (drop s.«open» s.marks))
+  pub forms_zero : T (all (λ c. eq_z c (pos 0)) (drop (form_cells n * s.forms) t.forms))
+  pub pool_zero : T (all (λ c. eqb c 0) (drop s.literals t.pool))
+  pub lines_zero : T (all (λ c. eqb c 0) (drop (line_cells * s.lines) t.lines))
+  pub marks_zero : T (all is_no_mark (drop s.«open» s.marks))
 
 module _ {n : ℕ} {s : Session} {t : Tables} where
   pub clauses : Passed (order n s t) → Clauses n s t
   unfolding order
   clauses p =
-      let (few-forms, (few-lines, (few-literals, (few-levels, (contents, of-lines))))) = p in
+      let (few_forms, (few_lines, (few_literals, (few_levels, (contents, of-lines))))) = p in
       let (rise, (short, (last, (origins, (ascends, (names, of-marks)))))) = of-lines in
-      let (marks-rise, (marks-held, (marks-end, (marks_name, of-zeros)))) = of-marks in
-      let (forms-zero, (pool-zero, (lines-zero, (marks-zero, _)))) = of-zeros in
+      let (marks_rise, (marks_held, (marks_end, (marks_name, of-zeros)))) = of-marks in
+      let (forms_zero, (pool_zero, (lines_zero, (marks_zero, _)))) = of-zeros in
       record {
-        few-forms = leb→le _ _ few-forms;
-        few-lines = leb→le _ _ few-lines;
-        few-literals = leb→le _ _ few-literals;
-        few-levels = leb→le _ _ few-levels;
+        few_forms = leb→le _ _ few_forms;
+        few_lines = leb→le _ _ few_lines;
+        few_literals = leb→le _ _ few_literals;
+        few_levels = leb→le _ _ few_levels;
         contents = below_at _ _ contents;
         rise = λ i h. leb→le _ _ (below_at _ _ rise i h);
         short = λ i h. leb→le _ _ (below_at _ _ short i h);
@@ -100,23 +100,23 @@ module _ {n : ℕ} {s : Session} {t : Tables} where
         origins = below_at _ _ origins;
         ascends = below_at _ _ ascends;
         names = below_at _ _ names;
-        marks-rise = below_at _ _ marks-rise;
-        marks-held = below_at _ _ marks-held;
-        marks-end = λ k h. eqb→eq _ _ (below_at _ _ marks-end k h);
+        marks_rise = below_at _ _ marks_rise;
+        marks_held = below_at _ _ marks_held;
+        marks_end = λ k h. eqb→eq _ _ (below_at _ _ marks_end k h);
         marks_name = λ k h. below_at _ _ (below_at _ _ marks_name k h);
-        forms-zero = forms-zero;
-        pool-zero = pool-zero;
-        lines-zero = lines-zero;
-        marks-zero = marks-zero;
+        forms_zero = forms_zero;
+        pool_zero = pool_zero;
+        lines_zero = lines_zero;
+        marks_zero = marks_zero;
       }
 
   pub clauses_pass : Clauses n s t → Passed (order n s t)
   unfolding order
   clauses_pass c =
-      le→leb _ _ c.few-forms
-      & le→leb _ _ c.few-lines
-      & le→leb _ _ c.few-literals
-      & le→leb _ _ c.few-levels
+      le→leb _ _ c.few_forms
+      & le→leb _ _ c.few_lines
+      & le→leb _ _ c.few_literals
+      & le→leb _ _ c.few_levels
       & at_below _ _ c.contents
       & at_below _ _ (λ i h. le→leb _ _ (c.rise i h))
       & at_below _ _ (λ i h. le→leb _ _ (c.short i h))
@@ -124,12 +124,12 @@ module _ {n : ℕ} {s : Session} {t : Tables} where
       & at_below _ _ c.origins
       & at_below _ _ c.ascends
       & at_below _ _ c.names
-      & at_below _ _ c.marks-rise
-      & at_below _ _ c.marks-held
-      & at_below _ _ (λ k h. eq→eqb (c.marks-end k h))
+      & at_below _ _ c.marks_rise
+      & at_below _ _ c.marks_held
+      & at_below _ _ (λ k h. eq→eqb (c.marks_end k h))
       & at_below _ _ (λ k h. at_below _ _ (c.marks_name k h))
-      & c.forms-zero
-      & c.pool-zero
-      & c.lines-zero
-      & c.marks-zero
+      & c.forms_zero
+      & c.pool_zero
+      & c.lines_zero
+      & c.marks_zero
       & tt

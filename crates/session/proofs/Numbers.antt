@@ -10,18 +10,18 @@ use Rattle.session.specs.Cells.{Tables, named}
 use Rattle.session.specs.InOrder.{sizes, order}
 
 module _ (n : ℕ) where
-  pub sizes-follow : (t : Tables) → T (follow (1 ∷ []) (sizes n t))
+  pub sizes_follow : (t : Tables) → T (follow (1 ∷ []) (sizes n t))
   unfolding follow sizes
-  sizes-follow t = tt
+  sizes_follow t = tt
 
-  order-follow : (s : Session) (t : Tables) → T (follow (2 ∷ []) (order n s t))
+  order_follow : (s : Session) (t : Tables) → T (follow (2 ∷ []) (order n s t))
   unfolding follow order
-  order-follow s t = tt
+  order_follow s t = tt
 
   module _ (s : Session) (t : Tables) where
     -- what every call tests first
     abbrev pub entry_tests : List Check
     entry_tests = sizes n t ++ order n s (named n t)
 
-    pub entry-follow : T (follow (1 ∷ 2 ∷ []) entry_tests)
-    entry-follow = follow_append (1 ∷ []) (2 ∷ []) (sizes n t) (order n s (named n t)) (sizes-follow t) (order-follow s (named n t))
+    pub entry_follow : T (follow (1 ∷ 2 ∷ []) entry_tests)
+    entry_follow = follow_append (1 ∷ []) (2 ∷ []) (sizes n t) (order n s (named n t)) (sizes_follow t) (order_follow s (named n t))

@@ -21,27 +21,27 @@ use Rattle.session.specs.InOrder.{sizes}
 use Rattle.session.specs.Answers.{finding_of}
 use Rattle.session.specs.Calls.{start, beginning_of}
 
-pub sizes-long : (n : ℕ) (t : Tables) → Passed (sizes n t) → Long n t
+pub sizes_long : (n : ℕ) (t : Tables) → Passed (sizes n t) → Long n t
 unfolding sizes
-sizes-long n t p = record { form-room = leb→le _ _ p.0; pool-room = leb→le _ _ p.1.0; line-room = leb→le _ _ p.1.1.0 }
+sizes_long n t p = record { form_room = leb→le _ _ p.0; pool_room = leb→le _ _ p.1.0; line_room = leb→le _ _ p.1.1.0 }
 
 module _ (n : ℕ) (t : Tables) (v : Verdict) (found : finding_of v ≡ finding (sizes n t)) where
   pub passed→long : v ≡ Pass → Long n t
-  passed→long e = sizes-long n t (pass→passed (sizes n t) (sym found ∙ ap finding_of e))
+  passed→long e = sizes_long n t (pass→passed (sizes n t) (sym found ∙ ap finding_of e))
 
   module _ (s : Session) (fresh : s ≡ fresh_session) where
-    pub start-refused : (why : Refusal) → v ≡ Fail why → beginning_of (record { session = s; start = Refused why }) t ≡ start n t
+    pub start_refused : (why : Refusal) → v ≡ Fail why → beginning_of (record { session = s; start = Refused why }) t ≡ start n t
     unfolding start
-    start-refused why e = rw (← found, e, fresh)
+    start_refused why e = rw (← found, e, fresh)
 
     -- the named cells came back as zeros
-    pub start-passed : (f : List ℤ) (p l : List ℕ) → v ≡ Pass
+    pub start_passed : (f : List ℤ) (p l : List ℕ) → v ≡ Pass
         → f ≡ replicate (length (take (form_table n) t.forms)) (pos 0)
         → p ≡ replicate (length (take pool_table t.pool)) 0
         → l ≡ replicate (length (take line_table t.lines)) 0
         → beginning_of (record { session = s; start = Started }) (with_excess (tables f p l) (excess n t)) ≡ start n t
     unfolding start
-    start-passed f p l e i j k =
+    start_passed f p l e i j k =
         let h = passed→long e in
         simp (
           ← found,
@@ -50,7 +50,7 @@ module _ (n : ℕ) (t : Tables) (v : Verdict) (found : finding_of v ≡ finding 
           i,
           j,
           k,
-          length-take-le (form_table n) t.forms h.form-room,
-          length-take-le pool_table t.pool h.pool-room,
-          length-take-le line_table t.lines h.line-room,
+          length-take-le (form_table n) t.forms h.form_room,
+          length-take-le pool_table t.pool h.pool_room,
+          length-take-le line_table t.lines h.line_room,
         )

@@ -77,6 +77,6 @@ pub record Between (n : ℕ) (from to : Mark) (t : Tables) : Type 0 where
   pub forms : from.forms ≤ to.forms
   pub lines : from.lines ≤ to.lines
   pub literals : from.literals ≤ to.literals
-  pub form-table : form_cells n * to.forms ≤ length t.forms
-  pub pool-table : to.literals ≤ length t.pool
-  pub line-table : line_cells * to.lines ≤ length t.lines
+  pub in_form_table : form_cells n * to.forms ≤ length t.forms
+  pub in_pool_table : to.literals ≤ length t.pool
+  pub in_line_table : line_cells * to.lines ≤ length t.lines

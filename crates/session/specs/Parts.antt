@@ -11,15 +11,15 @@ use Rattle.session.specs.Cells.{Tables, counts_of, mark_at}
 
 -- the tables have their named cells at least
 pub record Long (n : ℕ) (t : Tables) : Type 0 where
-  pub form-room : form_table n ≤ length t.forms
-  pub pool-room : pool_table ≤ length t.pool
-  pub line-room : line_table ≤ length t.lines
+  pub form_room : form_table n ≤ length t.forms
+  pub pool_room : pool_table ≤ length t.pool
+  pub line_room : line_table ≤ length t.lines
 
 -- the tables are cut to their named cells
 pub record Sized (n : ℕ) (t : Tables) : Type 0 where
-  pub form-size : length t.forms ≡ form_table n
-  pub pool-size : length t.pool ≡ pool_table
-  pub line-size : length t.lines ≡ line_table
+  pub form_size : length t.forms ≡ form_table n
+  pub pool_size : length t.pool ≡ pool_table
+  pub line_size : length t.lines ≡ line_table
 
 abbrev pub all_limits : Limits
 all_limits =

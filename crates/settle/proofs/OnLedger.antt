@@ -18,8 +18,8 @@ use Rattle.session.specs.Limits.{form_cells}
 use Rattle.session.specs.Cells.{Tables, tables, counts_of, ledger_of}
 use Rattle.session.specs.Effects.{with_form, form_written, with_line, literals_written, line_written, with_level, last_mark, less_level, freed, Between}
 use Rattle.laid.specs.Held.{Held}
-use Rattle.laid.proofs.Writes.{form-written, line-written, level-opened, level-room, level_closed}
-use Rattle.laid.proofs.HeldLaws.{held_clauses, held-legal, held-session, held-tables, form-count, line-count, literal_count_lem, level-count}
+use Rattle.laid.proofs.Writes.{form_written_lem, line_written_lem, level_opened, level_room, level_closed}
+use Rattle.laid.proofs.HeldLaws.{held_clauses, held_legal, held_session, held_tables, form_count, line_count, literal_count_lem, level_count}
 use Rattle.laid.specs.Result.{Result, unchanged, settled}
 
 -- an acceptance
@@ -35,33 +35,33 @@ whole_cells n (k ∷ d ∷ row) e = (omega arith, refl)
 module _ {n : ℕ} {s : Session} {t : Tables} (h : Held n s t) where
   -- ---- a form
 
-  pub form-full : (f : Form) → most_forms ≤ s.forms → unchanged 7 s t ≡ settled n s t (stored (ledger_of n s t) (new_form f))
+  pub form_full : (f : Form) → most_forms ≤ s.forms → unchanged 7 s t ≡ settled n s t (stored (ledger_of n s t) (new_form f))
   unfolding stored finding room
-  form-full f full = rw (form-count h, le-ltb s.forms most_forms full)
+  form_full f full = rw (form_count h, le-ltb s.forms most_forms full)
 
-  pub form-kept : (xs : List ℤ) → length xs ≡ form_cells n → s.forms < most_forms → (fs : List ℤ)
+  pub form_kept : (xs : List ℤ) → length xs ≡ form_cells n → s.forms < most_forms → (fs : List ℤ)
       → fs ≡ form_written n s.forms xs t.forms
       → changed (form s.forms) (with_form s) (tables fs t.pool t.lines) ≡ settled n s t (stored (ledger_of n s t) (new_form (form_of xs)))
   unfolding stored finding room
-  form-kept xs long free fs e =
-      let room : length (ledger_of n s t).forms < most_forms = rw (form-count h) free in
+  form_kept xs long free fs e =
+      let room : length (ledger_of n s t).forms < most_forms = rw (form_count h) free in
       let (whole, same) = whole_cells n xs long in
-      let (session, cells) = rw (held-session h, held-tables h) at (form-written n (ledger_of n s t) (held-legal h) (form_of xs) room whole) in
+      let (session, cells) = rw (held_session h, held_tables h) at (form_written_lem n (ledger_of n s t) (held_legal h) (form_of xs) room whole) in
       let forms = rw (← same) at e in
-      rw (form-count h, lt-ltb s.forms most_forms free, forms, session, cells)
+      rw (form_count h, lt-ltb s.forms most_forms free, forms, session, cells)
 
   -- ---- a line
 
-  pub line-full : (x : Line) → most_lines ≤ s.lines → unchanged 7 s t ≡ settled n s t (stored (ledger_of n s t) (new_line x))
+  pub line_full : (x : Line) → most_lines ≤ s.lines → unchanged 7 s t ≡ settled n s t (stored (ledger_of n s t) (new_line x))
   unfolding stored finding room
-  line-full x full = rw (line-count h, le-ltb s.lines most_lines full)
+  line_full x full = rw (line_count h, le-ltb s.lines most_lines full)
 
-  pub pool-full : (x : Line) → s.lines < most_lines → most_literals - s.literals < length x.literals
+  pub pool_full : (x : Line) → s.lines < most_lines → most_literals - s.literals < length x.literals
       → unchanged 7 s t ≡ settled n s t (stored (ledger_of n s t) (new_line x))
   unfolding stored finding room
-  pool-full x free full =
-      let over = lt-leb (s.literals + length x.literals) most_literals (omega (arith, (held_clauses h).few-literals)) in
-      rw (line-count h, lt-ltb s.lines most_lines free, literal_count_lem h, over)
+  pool_full x free full =
+      let over = lt-leb (s.literals + length x.literals) most_literals (omega (arith, (held_clauses h).few_literals)) in
+      rw (line_count h, lt-ltb s.lines most_lines free, literal_count_lem h, over)
 
   pub line_kept : (x : Line) → s.lines < most_lines → s.literals + length x.literals ≤ most_literals → (ps ls : List ℕ)
       → ps ≡ literals_written s.literals x t.pool
@@ -69,35 +69,35 @@ module _ {n : ℕ} {s : Session} {t : Tables} (h : Held n s t) where
       → changed (line s.lines) (with_line s (length x.literals)) (tables t.forms ps ls) ≡ settled n s t (stored (ledger_of n s t) (new_line x))
   unfolding stored finding room
   line_kept x free fits ps ls e f =
-      let room : length (ledger_of n s t).lines < most_lines = rw (line-count h) free in
+      let room : length (ledger_of n s t).lines < most_lines = rw (line_count h) free in
       let place : literal_count (ledger_of n s t).lines + length x.literals ≤ most_literals = rw (literal_count_lem h) fits in
-      let (session, cells) = rw (held-session h, held-tables h) at (line-written n (ledger_of n s t) (held-legal h) x room place) in
+      let (session, cells) = rw (held_session h, held_tables h) at (line_written_lem n (ledger_of n s t) (held_legal h) x room place) in
       let under = le-leb (s.literals + length x.literals) most_literals fits in
-      rw (line-count h, lt-ltb s.lines most_lines free, literal_count_lem h, under, e, f, session, cells)
+      rw (line_count h, lt-ltb s.lines most_lines free, literal_count_lem h, under, e, f, session, cells)
 
   -- ---- a level
 
-  pub levels-full : most_levels ≤ s.«open» → unchanged 7 s t ≡ settled n s t (settles (ledger_of n s t) opens)
+  pub levels_full : most_levels ≤ s.«open» → unchanged 7 s t ≡ settled n s t (settles (ledger_of n s t) opens)
   unfolding settles finding
-  levels-full full = rw (level-count h, le-ltb s.«open» most_levels full)
+  levels_full full = rw (level_count h, le-ltb s.«open» most_levels full)
 
-  pub level-opens : s.«open» < most_levels → changed (level (s.«open» + 1)) (with_level s) t ≡ settled n s t (settles (ledger_of n s t) opens)
+  pub level_opens : s.«open» < most_levels → changed (level (s.«open» + 1)) (with_level s) t ≡ settled n s t (settles (ledger_of n s t) opens)
   unfolding settles finding
-  level-opens free =
-      let (session, cells) = rw (held-session h, held-tables h) at (level-opened n (ledger_of n s t) (rw (level-count h) free)) in
-      rw (level-count h, lt-ltb s.«open» most_levels free, session, cells)
+  level_opens free =
+      let (session, cells) = rw (held_session h, held_tables h) at (level_opened n (ledger_of n s t) (rw (level_count h) free)) in
+      rw (level_count h, lt-ltb s.«open» most_levels free, session, cells)
 
   pub no_level : s.«open» ≡ 0 → unchanged 13 s t ≡ settled n s t (settles (ledger_of n s t) withdraws)
   unfolding settles finding
-  no_level none = rw (level-count h, none)
+  no_level none = rw (level_count h, none)
 
-  pub level-fits : 0 < s.«open» → Between n (last_mark s) (counts_of s) t
-  level-fits some = rw (held-session h, held-tables h) at (level-room n (ledger_of n s t) (held-legal h) (rw (level-count h) some))
+  pub level_fits : 0 < s.«open» → Between n (last_mark s) (counts_of s) t
+  level_fits some = rw (held_session h, held_tables h) at (level_room n (ledger_of n s t) (held_legal h) (rw (level_count h) some))
 
-  pub level-closes : 0 < s.«open»
+  pub level_closes : 0 < s.«open»
       → changed (level (s.«open» - 1)) (less_level s) (freed n (last_mark s) (counts_of s) t) ≡ settled n s t (settles (ledger_of n s t) withdraws)
   unfolding settles finding
-  level-closes some =
-      let room : 0 < length (ledger_of n s t).marks = rw (level-count h) some in
-      let (session, cells) = rw (held-session h, held-tables h) at (level_closed n (ledger_of n s t) (held-legal h) room) in
-      rw (level-count h, lt-ltb 0 s.«open» some, session, cells)
+  level_closes some =
+      let room : 0 < length (ledger_of n s t).marks = rw (level_count h) some in
+      let (session, cells) = rw (held_session h, held_tables h) at (level_closed n (ledger_of n s t) (held_legal h) room) in
+      rw (level_count h, lt-ltb 0 s.«open» some, session, cells)

@@ -19,7 +19,7 @@ use Rattle.laid.proofs.HeldLaws.{held_clauses}
 use Rattle.settle.specs.declared.Top.{Top}
 use Rattle.settle.specs.Settling.{with_counts, top_of, Seen}
 use Rattle.laid.specs.Result.{settled}
-use Rattle.settle.proofs.OnLedger.{changed, form-kept, line_kept, level-opens, level-fits, level-closes}
+use Rattle.settle.proofs.OnLedger.{changed, form_kept, line_kept, level_opens, level_fits, level_closes}
 
 -- what is read of a session is its top
 pub top_is : (s : Session) {counts : Mark} {at : ℕ} → counts ≡ counts_of s → at ≡ s.«open» - 1
@@ -35,7 +35,7 @@ module _ {n : ℕ} {s : Session} {t : Tables} (h : Held n s t) (top : Top) (e : 
       (with_counts s (record { forms = top.counts.forms + 1; lines = top.counts.lines; literals = top.counts.literals }))
       (tables fs t.pool t.lines)
       ≡ settled n s t (stored (ledger_of n s t) (new_form (form_of xs)))
-  form_adds xs long free fs w = rw (← e) (form-kept h xs long (rw (← e) at free) fs (rw (← e) at w))
+  form_adds xs long free fs w = rw (← e) (form_kept h xs long (rw (← e) at free) fs (rw (← e) at w))
 
   pub line_adds : (x : Line) → top.counts.lines < most_lines → top.counts.literals + length x.literals ≤ most_literals → (ps ls : List ℕ)
       → ps ≡ literals_written top.counts.literals x t.pool → ls ≡ line_written top.counts.lines top.counts.literals x t.lines
@@ -49,7 +49,7 @@ module _ {n : ℕ} {s : Session} {t : Tables} (h : Held n s t) (top : Top) (e : 
 -- ---- levels
 
 module _ {n : ℕ} {s : Session} {t : Tables} (h : Held n s t) (top : Top) (e : top_of s ≡ top) where
-  pub opens-more : top.«open» < most_levels
+  pub opens_more : top.«open» < most_levels
       → changed (level (top.«open» + 1))
       (record {
         forms = top.counts.forms;
@@ -60,7 +60,7 @@ module _ {n : ℕ} {s : Session} {t : Tables} (h : Held n s t) (top : Top) (e : 
       })
       t
       ≡ settled n s t (settles (ledger_of n s t) opens)
-  opens-more free = rw (← e) (level-opens h (rw (← e) at free))
+  opens_more free = rw (← e) (level_opens h (rw (← e) at free))
 
   pub closes_less : 0 < top.«open» → (t' : Tables) → t' ≡ freed n top.last top.counts t
       → changed (level (top.«open» - 1))
@@ -73,15 +73,15 @@ module _ {n : ℕ} {s : Session} {t : Tables} (h : Held n s t) (top : Top) (e : 
       })
       t'
       ≡ settled n s t (settles (ledger_of n s t) withdraws)
-  closes_less some t' w = rw w (rw (← e) (level-closes h (rw (← e) at some)))
+  closes_less some t' w = rw w (rw (← e) (level_closes h (rw (← e) at some)))
 
 -- what is seen of a session that is held
 module _ {n : ℕ} {top : Top} {t : Tables} (v : Seen n top t) where
-  pub seen-levels : top.«open» ≤ most_levels
-  seen-levels = subst (λ (x : Top). x.«open» ≤ most_levels) v.seen (held_clauses v.held).few-levels
+  pub seen_levels : top.«open» ≤ most_levels
+  seen_levels = subst (λ (x : Top). x.«open» ≤ most_levels) v.seen (held_clauses v.held).few_levels
 
-  pub seen-literals : top.counts.literals ≤ most_literals
-  seen-literals = subst (λ (x : Top). x.counts.literals ≤ most_literals) v.seen (held_clauses v.held).few-literals
+  pub seen_literals : top.counts.literals ≤ most_literals
+  seen_literals = subst (λ (x : Top). x.counts.literals ≤ most_literals) v.seen (held_clauses v.held).few_literals
 
-  pub seen-between : 0 < top.«open» → Between n top.last top.counts t
-  seen-between some = subst (λ (x : Top). Between n x.last x.counts t) v.seen (level-fits v.held (rw (← v.seen) at some))
+  pub seen_between : 0 < top.«open» → Between n top.last top.counts t
+  seen_between some = subst (λ (x : Top). Between n x.last x.counts t) v.seen (level_fits v.held (rw (← v.seen) at some))

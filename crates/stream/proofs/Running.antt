@@ -15,7 +15,7 @@ use Rattle.ledger.specs.Record.{RecordMark, Made, Answer, accepted, refused}
 use Rattle.ledger.specs.Apply.{pass, fail}
 use Rattle.ledger.specs.Split.{front, split, records_of}
 use Rattle.ledger.specs.Run.{Misshapen}
-use Rattle.ledger.proofs.RunLaws.{front_positive, records-step}
+use Rattle.ledger.proofs.RunLaws.{front_positive, records_step}
 use Rattle.session.specs.declared.state.Mark.{Mark}
 use Rattle.session.specs.declared.state.Session.{Session}
 use Rattle.session.specs.Cells.{Tables, named, excess, with_excess, counts_of, ledger_of}
@@ -34,8 +34,8 @@ use Rattle.checker.specs.Changes.{Changes}
 use Rattle.stream.specs.Run.{Totals, totals, each_by, run}
 use Rattle.stream.specs.Walk.{session_with, FrontStep}
 use Rattle.settle.proofs.OnLedger.{changed}
-use Rattle.checker.proofs.Beside.{restored, feed-beside, held_again}
-use Rattle.checker.proofs.Feeding.{entry-held}
+use Rattle.checker.proofs.Beside.{restored, feed_beside, held_again}
+use Rattle.checker.proofs.Feeding.{entry_held}
 use Rattle.checker.proofs.Settled.{stepped_wrong}
 
 -- ---- one record more
@@ -59,9 +59,9 @@ module _ (call : Session → Tables → List ℕ → Result) (k c : ℕ) (s : Se
   each_stops e = ap next e
 
 -- a record that is refused changes nothing, also on held tables
-pub step-refused : (n : ℕ) (s : Session) (t : Tables) (b : List ℕ) {j : ℕ} → (stepped n s t b).answer ≡ refused j → stepped n s t b ≡ unchanged j s t
+pub step_refused : (n : ℕ) (s : Session) (t : Tables) (b : List ℕ) {j : ℕ} → (stepped n s t b).answer ≡ refused j → stepped n s t b ≡ unchanged j s t
 unfolding stepped
-step-refused n s t b {j} e = let o = apply_bytes n (ledger_of n s t) b in of o.answer o.ledger e
+step_refused n s t b {j} e = let o = apply_bytes n (ledger_of n s t) b in of o.answer o.ledger e
   where
     of : (a : Answer) (l : Ledger) → (settled n s t (record { answer = a; ledger = l })).answer ≡ refused j
         → settled n s t (record { answer = a; ledger = l }) ≡ unchanged j s t
@@ -73,13 +73,13 @@ step-refused n s t b {j} e = let o = apply_bytes n (ledger_of n s t) b in of o.a
 abbrev pub beside_totals : Tables → Totals → Totals
 beside_totals x r = totals r.records r.bytes r.stop r.session (with_excess r.tables x)
 
-pub each-beside : (n k c : ℕ) (s : Session) (t x : Tables) (bs : List (List ℕ)) → Held n s t
+pub each_beside : (n k c : ℕ) (s : Session) (t x : Tables) (bs : List (List ℕ)) → Held n s t
     → each_by (feed n) k c s (with_excess t x) bs ≡ beside_totals x (each_by (stepped n) k c s t bs)
 unfolding each_by next
-each-beside n k c s t x [] h = refl
-each-beside n k c s t x (b ∷ bs) h =
+each_beside n k c s t x [] h = refl
+each_beside n k c s t x (b ∷ bs) h =
     let r = stepped n s t b in
-    ap (next (feed n) k c s (with_excess t x) b bs) (feed-beside h x b) ∙ (go r.answer (each-beside n (k + 1) (c + length b) r.session r.tables x bs (held_again h b)))
+    ap (next (feed n) k c s (with_excess t x) b bs) (feed_beside h x b) ∙ (go r.answer (each_beside n (k + 1) (c + length b) r.session r.tables x bs (held_again h b)))
   where
     r : Result
     r = stepped n s t b
@@ -109,9 +109,9 @@ module _ {n : ℕ} {top : Top} {t : Tables} {b : List ℕ} where
         changes = λ s e h. record { result = rw (take-length b) (sym (stepped_wrong n s t b w.failed)); place = tt };
       }
 
-  pub whole-front : {m : RecordMark} {c : Change} {size : ℕ} {t' : Tables} → Whole b m size → Changes n top t (take (size - 0) b) c t'
+  pub whole_front : {m : RecordMark} {c : Change} {size : ℕ} {t' : Tables} → Whole b m size → Changes n top t (take (size - 0) b) c t'
       → FrontStep n top t b c size t'
-  whole-front {m} {c} {size} {t'} w f =
+  whole_front {m} {c} {size} {t'} w f =
       record { within = w.within; taken = w.taken; changes = subst (λ (k : ℕ). Changes n top t (take k b) c t') (sub-zero size) f }
 
 -- ---- the loop
@@ -133,25 +133,25 @@ module _ (n : ℕ) (s : Session) (t : Tables) {m : Mark} (e : m ≡ counts_of s)
       → x ≡ each_by (stepped n) 0 0 s t bs
   set_out bs f = rw e at f
 
-drop-taken : (j : ℕ) (xs : List ℕ) → drop (length (take j xs)) xs ≡ drop j xs
-drop-taken zero xs = refl
-drop-taken (suc j) [] = refl
-drop-taken (suc j) (x ∷ xs) = drop-taken j xs
+drop_taken : (j : ℕ) (xs : List ℕ) → drop (length (take j xs)) xs ≡ drop j xs
+drop_taken zero xs = refl
+drop_taken (suc j) [] = refl
+drop_taken (suc j) (x ∷ xs) = drop_taken j xs
 
 -- what is left of a stream, as the part from there to its end
 pub rest_is : (c : ℕ) (b : List ℕ) → take (length b - c) (drop c b) ≡ drop c b
 rest_is c b = take_all (length b - c) (drop c b) (omega (arith, length-drop c b))
 
 -- the records of what is left, where the front one has so many bytes
-records-left : (b : List ℕ) (size : ℕ) → 0 < length b → size ≤ length b → take size b ≡ take (front b) b
+records_left : (b : List ℕ) (size : ℕ) → 0 < length b → size ≤ length b → take size b ≡ take (front b) b
     → (records_of b ≡ take size b ∷ records_of (drop size b)) × (0 < size)
-records-left [] size some fits same = absurd (omega arith)
-records-left (x ∷ b) size some fits same =
+records_left [] size some fits same = absurd (omega arith)
+records_left (x ∷ b) size some fits same =
     let whole = x ∷ b in
     let long : length (take size whole) ≡ size = length-take-le size whole fits in
     let left : drop size whole ≡ drop (front whole) whole =
-    ap (λ (k : ℕ). drop k whole) (sym long ∙ ap length same) ∙ drop-taken (front whole) whole in
-    (rw (same, left) (records-step x b), positive (front whole) (front_positive x b) (sym long ∙ ap length same))
+    ap (λ (k : ℕ). drop k whole) (sym long ∙ ap length same) ∙ drop_taken (front whole) whole in
+    (rw (same, left) (records_step x b), positive (front whole) (front_positive x b) (sym long ∙ ap length same))
   where
     positive : (k : ℕ) → 1 ≤ k → size ≡ length (take k (x ∷ b)) → 0 < size
     positive zero h e = absurd (omega arith)
@@ -178,7 +178,7 @@ turns {n} {s} {t} {b} {k} {c} {s'} {t'} {top} {x} {size} {t''} u more f e =
     let d = drop c b in
     let left = subst (λ (l : List ℕ). FrontStep n top t' l x size t'') (rest_is c b) f in
     let does = left.changes s' e u.held in
-    let (first, forward) = records-left d size (rw (length-drop c b) (omega arith)) left.within left.taken in
+    let (first, forward) = records_left d size (rw (length-drop c b) (omega arith)) left.within left.taken in
     let rest : each_by (stepped n) k c s' t' (take size d ∷ records_of (drop size d)) ≡ each_by (stepped n) 0 0 s t (records_of b) = rw first at u.same in
     let within : c + size ≤ length b = omega (arith, left.within, length-drop c b, u.within) in
     let held = subst (λ (r : Result). Held n r.session r.tables) (sym does.result) (held_again u.held (take size d)) in
@@ -189,7 +189,7 @@ turns {n} {s} {t} {b} {k} {c} {s'} {t'} {top} {x} {size} {t''} u more f e =
       held = held;
       stops =
           λ e.
-          let refusal = step-refused n s' t' (take size d) (sym (ap (λ (r : Result). r.answer) does.result) ∙ ap answer_by e) in
+          let refusal = step_refused n s' t' (take size d) (sym (ap (λ (r : Result). r.answer) does.result) ∙ ap answer_by e) in
           rw (ap (λ (r : Result). r.tables) (does.result ∙ refusal))
           (sym (each_stops (stepped n) k c s' t' (take size d) (records_of (drop size d)) refusal) ∙ rest);
       goes =
@@ -208,13 +208,13 @@ turns {n} {s} {t} {b} {k} {c} {s'} {t'} {top} {x} {size} {t''} u more f e =
 -- ---- the call
 
 module _ (n : ℕ) (s : Session) (t : Tables) (b : List ℕ) where
-  pub run-refused : (k : ℕ) → entry n s t ≡ fail k → totals 0 0 k s t ≡ run n s t b
+  pub run_refused : (k : ℕ) → entry n s t ≡ fail k → totals 0 0 k s t ≡ run n s t b
   unfolding run
-  run-refused k e = rw e
+  run_refused k e = rw e
 
-  pub run-stepped : entry n s t ≡ pass → length s.marks ≡ most_levels → (r : Totals)
+  pub run_stepped : entry n s t ≡ pass → length s.marks ≡ most_levels → (r : Totals)
       → r ≡ each_by (stepped n) 0 0 s (named n t) (records_of b) → beside_totals (excess n t) r ≡ run n s t b
   unfolding run
-  run-stepped e m r f =
-      let whole = each-beside n 0 0 s (named n t) (excess n t) (records_of b) (entry-held n s t e m) in
+  run_stepped e m r f =
+      let whole = each_beside n 0 0 s (named n t) (excess n t) (records_of b) (entry_held n s t e m) in
       ap (beside_totals (excess n t)) f ∙ sym whole ∙ rw (restored n t, e)

@@ -23,7 +23,7 @@ use Rattle.ledger.specs.Bytes.{terms_behind}
 use Rattle.fields.specs.Fields.{Listed, TermsRead}
 use Rattle.rules.specs.Read.{FormsHeld, forms_in}
 use Rattle.terms.specs.Picks.{Paired}
-use Rattle.terms.proofs.TermParts.{forms-terms}
+use Rattle.terms.proofs.TermParts.{forms_terms}
 use Rattle.literals.specs.Lists.{Low}
 use Rattle.rules.proofs.FieldLaws.{low_form}
 
@@ -37,29 +37,29 @@ module _ {b : List ℕ} {k : ℕ} {forms : List ℕ} {multipliers : List ℤ} (e
   lent_terms = ap (λ (i : ℕ). terms (take i forms) (take i multipliers)) (sub-zero k) ∙ e.read
 
   module _ (full : Full forms multipliers) where
-    pub forms-end : k ≤ length forms
-    forms-end = omega (arith, full.first, e.few)
+    pub forms_end : k ≤ length forms
+    forms_end = omega (arith, full.first, e.few)
 
     pub multipliers_end : k ≤ length multipliers
     multipliers_end = omega (arith, full.second, e.few)
 
-    form-length : length (take (k - 0) forms) ≡ k
-    form-length = simp sub-zero (length-take-le (k) forms forms-end)
+    form_length : length (take (k - 0) forms) ≡ k
+    form_length = simp sub-zero (length-take-le (k) forms forms_end)
 
-    multiplier-length : length (take (k - 0) multipliers) ≡ k
-    multiplier-length = simp sub-zero (length-take-le (k) multipliers multipliers_end)
+    multiplier_length : length (take (k - 0) multipliers) ≡ k
+    multiplier_length = simp sub-zero (length-take-le (k) multipliers multipliers_end)
 
     pub lent_paired : Listed behind_letters 6 1 most_terms b → Paired (take (k - 0) forms) (take (k - 0) multipliers)
     lent_paired w =
         record {
-          some = omega (arith, form-length, e.count, w.some);
-          few = omega (arith, form-length, e.few);
-          paired = form-length ∙ sym multiplier-length;
+          some = omega (arith, form_length, e.count, w.some);
+          few = omega (arith, form_length, e.few);
+          paired = form_length ∙ sym multiplier_length;
         }
 
     pub lent_forms : take (k - 0) forms ≡ forms_of (terms_behind behind_letters b)
     lent_forms =
-        sym (forms-terms (take (k - 0) forms) (take (k - 0) multipliers) (form-length ∙ sym multiplier-length)) ∙ ap (λ (ts : List Term). forms_of ts) lent_terms
+        sym (forms_terms (take (k - 0) forms) (take (k - 0) multipliers) (form_length ∙ sym multiplier_length)) ∙ ap (λ (ts : List Term). forms_of ts) lent_terms
 
     -- where they are in force, their literals are low
     pub lent_low : {n many : ℕ} {cells : List ℤ} → FormsHeld n many cells → T (all (form_in (forms_in n many cells)) (forms_of (terms_behind behind_letters b)))
@@ -70,7 +70,7 @@ module _ {b : List ℕ} {k : ℕ} {forms : List ℕ} {multipliers : List ℤ} (e
         }
 
     pub lent_few : length (take (k - 0) forms) ≤ longest_line
-    lent_few = omega (arith, form-length, e.few)
+    lent_few = omega (arith, form_length, e.few)
 
 -- where the tests of a sum pass, its forms are in force
 pub sum_in_force : (fs : List Form) (ts : List Term) (cs : List Check) {v : Finding}

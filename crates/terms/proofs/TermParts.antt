@@ -18,16 +18,16 @@ use Rattle.rows.specs.Summable.{terms}
 use Rattle.ledger.specs.Ledger.{nth_form}
 use Rattle.ledger.specs.Checks.{forms_of, first_divisor}
 
-pub forms-terms : (ps : List ℕ) (ms : List ℤ) → length ps ≡ length ms → forms_of (terms ps ms) ≡ ps
-forms-terms [] ms e = refl
-forms-terms (f ∷ ps) [] e = absurd (omega arith)
-forms-terms (f ∷ ps) (m ∷ ms) e = ap (◌∷◌ f) (forms-terms ps ms (omega arith))
+pub forms_terms : (ps : List ℕ) (ms : List ℤ) → length ps ≡ length ms → forms_of (terms ps ms) ≡ ps
+forms_terms [] ms e = refl
+forms_terms (f ∷ ps) [] e = absurd (omega arith)
+forms_terms (f ∷ ps) (m ∷ ms) e = ap (◌∷◌ f) (forms_terms ps ms (omega arith))
 
-pub first-divisor : (fs : List Form) (ps : List ℕ) (ms : List ℤ) → 1 ≤ length ps → length ps ≡ length ms
+pub first_divisor_lem : (fs : List Form) (ps : List ℕ) (ms : List ℤ) → 1 ≤ length ps → length ps ≡ length ms
     → first_divisor fs (terms ps ms) ≡ (nth_form fs (get_or ps 0 0)).divisor
-first-divisor fs [] ms h e = absurd (omega arith)
-first-divisor fs (f ∷ ps) [] h e = absurd (omega arith)
-first-divisor fs (f ∷ ps) (m ∷ ms) h e = refl
+first_divisor_lem fs [] ms h e = absurd (omega arith)
+first_divisor_lem fs (f ∷ ps) [] h e = absurd (omega arith)
+first_divisor_lem fs (f ∷ ps) (m ∷ ms) h e = refl
 
 -- two sums, by rows that agree on what passes a test
 module _ (g : Term → Bool) (row row' : ℕ → Row) (agree : (t : Term) → T (g t) → row t.form ≡ row' t.form) where
@@ -60,16 +60,16 @@ divided (negsuc k) = refl
 abbrev small : ℤ → Bool
 small m = between (neg_ℤ (pos largest_multiplier)) (pos largest_multiplier) m
 
-pub legal-small : (k m : ℤ) → T (legal_multiplier k m) → T (small m)
+pub legal_small : (k m : ℤ) → T (legal_multiplier k m) → T (small m)
 unfolding legal_multiplier
-legal-small k m t = go (eq_z k at_most) m t
+legal_small k m t = go (eq_z k at_most) m t
   where
     go : (b : Bool) (m : ℤ) → T (cond b (between (pos 1) (pos largest_multiplier) m) (small m && not (eq_z m (pos 0)))) → T (small m)
     go true (pos m) t = (T_and (leb 1 m) (leb m largest_multiplier) t).1
     go true (negsuc m) t = absurd t
     go false m t = (T_and (small m) (not (eq_z m (pos 0))) t).0
 
-pub legal-numbers : (n : ℕ) (f : Form) → T (legal n f) → T (all in_range f.row)
+pub legal_numbers : (n : ℕ) (f : Form) → T (legal n f) → T (all in_range f.row)
 unfolding legal
-legal-numbers n f t =
+legal_numbers n f t =
     (T_and (between (pos 1) (pos 3) f.kind && legal_divisor f.kind f.divisor && eqb (length f.row) (n + 1)) (all in_range f.row) t).1

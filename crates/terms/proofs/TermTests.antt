@@ -20,9 +20,9 @@ use Rattle.ledger.specs.Checks.{Check, ◌else◌, form_in, forms_of, divisor_is
 use Rattle.ledger.specs.Apply.{Finding, fail, finding}
 use Rattle.rules.specs.Read.{FormsHeld, forms_in}
 use Rattle.terms.specs.Picks.{Paired, allowed}
-use Rattle.ints.proofs.Lists.{all-and}
-use Rattle.terms.proofs.TermParts.{forms-terms, first-divisor, sum_agrees, legal-small, legal-numbers}
-use Rattle.rules.proofs.HeldLaws.{form-count, form-is, form-legal, form-inside, in_force}
+use Rattle.ints.proofs.Lists.{all_and}
+use Rattle.terms.proofs.TermParts.{forms_terms, first_divisor_lem, sum_agrees, legal_small, legal_numbers}
+use Rattle.rules.proofs.HeldLaws.{form_count, form_is, form_legal, form_inside, in_force}
 
 -- ---- the shared tests, by the cells
 
@@ -65,69 +65,69 @@ module _ {n many : ℕ} {cells : List ℤ} (h : FormsHeld n many cells) {ps : Li
   in_force_lem u = ltb u.form many
 
   all_in_force : T (in_force many ps) → T (all in_force_lem ts)
-  all_in_force k = rw (← all_map (λ f. ltb f many) (λ u. u.form) ts, forms-terms ps ms p.paired) k
+  all_in_force k = rw (← all_map (λ f. ltb f many) (λ u. u.form) ts, forms_terms ps ms p.paired) k
 
-  form-read : (u : Term) → T (in_force_lem u) → nth_form fs u.form ≡ form_at n cells u.form
-  form-read u k = form-is h u.form (ltb→lt _ _ k)
+  form_read : (u : Term) → T (in_force_lem u) → nth_form fs u.form ≡ form_at n cells u.form
+  form_read u k = form_is h u.form (ltb→lt _ _ k)
 
   pub sum_read : T (in_force many ps) → summed n (nth_row fs) ts ≡ summed n (row_at n cells) ts
-  sum_read k = sum_agrees in_force_lem (nth_row fs) (row_at n cells) (λ u i. ap (λ (f : Form). f.row) (form-read u i)) _ ts (all_in_force k)
+  sum_read k = sum_agrees in_force_lem (nth_row fs) (row_at n cells) (λ u i. ap (λ (f : Form). f.row) (form_read u i)) _ ts (all_in_force k)
 
   -- ---- the tests
 
   module _ (kind_is : ℤ → Bool) (low high : ℤ) (ranged : (k : ℤ) → kind_is k ≡ between low high k) where
-    abbrev pub kind-is : Term → Bool
-    kind-is u = kind_is (nth_form fs u.form).kind
+    abbrev pub kind_is_lem : Term → Bool
+    kind_is_lem u = kind_is (nth_form fs u.form).kind
 
-    abbrev pub multiplier-is : Term → Bool
-    multiplier-is u = legal_multiplier (nth_form fs u.form).kind u.multiplier
+    abbrev pub multiplier_is : Term → Bool
+    multiplier_is u = legal_multiplier (nth_form fs u.form).kind u.multiplier
 
-    allowed-read : T (in_force many ps) → all kind-is ts && all multiplier-is ts ≡ all (term_allowed n cells low high) ts
-    allowed-read k =
-        all-and kind-is multiplier-is ts
-        ∙ all_agree in_force_lem (λ u. kind-is u && multiplier-is u) (term_allowed n cells low high)
-        (λ u i. rw (form-read u i, ranged (form_at n cells u.form).kind)) ts (all_in_force k)
+    allowed_read : T (in_force many ps) → all kind_is_lem ts && all multiplier_is ts ≡ all (term_allowed n cells low high) ts
+    allowed_read k =
+        all_and kind_is_lem multiplier_is ts
+        ∙ all_agree in_force_lem (λ u. kind_is_lem u && multiplier_is u) (term_allowed n cells low high)
+        (λ u i. rw (form_read u i, ranged (form_at n cells u.form).kind)) ts (all_in_force k)
 
     pub shared_read : (cs ds : List Check) → (T (in_force many ps) → finding cs ≡ finding ds)
         → finding
         ((all (form_in fs) (forms_of ts) else 8)
         ∷ (ascending (forms_of ts) else 9)
-        ∷ (all kind-is ts else 10)
-        ∷ (all multiplier-is ts else 10)
+        ∷ (all kind_is_lem ts else 10)
+        ∷ (all multiplier_is ts else 10)
         ∷ cs)
         ≡ finding (shared n many cells low high ps ms ds)
     unfolding finding
     shared_read cs ds rest =
-        let forms : all (form_in fs) ps ≡ in_force many ps = ap (λ (k : ℕ). all (λ f. ltb f k) ps) (form-count h) in
-        rw (forms-terms ps ms p.paired, forms)
+        let forms : all (form_in fs) ps ≡ in_force many ps = ap (λ (k : ℕ). all (λ f. ltb f k) ps) (form_count h) in
+        rw (forms_terms ps ms p.paired, forms)
         (where_holds (in_force many ps) _ _ _
         (λ k. ap (λ (v : Finding). cond (ascending ps) v (fail 9))
-        (both (all kind-is ts) (all multiplier-is ts) (finding cs) (fail 10)
-        ∙ ap₂ (λ (b : Bool) (v : Finding). cond b v (fail 10)) (allowed-read k) (rest k))))
+        (both (all kind_is_lem ts) (all multiplier_is ts) (finding cs) (fail 10)
+        ∙ ap₂ (λ (b : Bool) (v : Finding). cond b v (fail 10)) (allowed_read k) (rest k))))
 
   -- the divisor of the first form
   pub modulus_read : T (in_force many ps) → first_divisor fs ts ≡ modulus n cells ps
   modulus_read k =
-      first-divisor fs ps ms p.some p.paired
-      ∙ ap (λ (f : Form). f.divisor) (form-is h (get_or ps 0 0) (ltb→lt _ _ (all_at (λ f. ltb f many) ps 0 0 k p.some)))
+      first_divisor_lem fs ps ms p.some p.paired
+      ∙ ap (λ (f : Form). f.divisor) (form_is h (get_or ps 0 0) (ltb→lt _ _ (all_at (λ f. ltb f many) ps 0 0 k p.some)))
 
   pub divisors_read : (d : ℤ) → T (in_force many ps) → all (divisor_is fs d) ts ≡ all (has_divisor n cells d) ps
   divisors_read d k =
-      all_agree in_force_lem (divisor_is fs d) (λ u. has_divisor n cells d u.form) (λ u i. rw (form-read u i)) ts (all_in_force k)
+      all_agree in_force_lem (divisor_is fs d) (λ u. has_divisor n cells d u.form) (λ u i. rw (form_read u i)) ts (all_in_force k)
       ∙ sym (all_map (has_divisor n cells d) (λ u. u.form) ts)
-      ∙ ap (all (has_divisor n cells d)) (forms-terms ps ms p.paired)
+      ∙ ap (all (has_divisor n cells d)) (forms_terms ps ms p.paired)
 
   -- ---- what passes may be summed
 
-  term-summand : (low high : ℤ) (u : Term) → T (in_force_lem u && term_allowed n cells low high u) → T (summand n cells u)
-  term-summand low high u k =
+  term_summand : (low high : ℤ) (u : Term) → T (in_force_lem u && term_allowed n cells low high u) → T (summand n cells u)
+  term_summand low high u k =
       let form = form_at n cells u.form in
       let (i, a) = T_and (in_force_lem u) (term_allowed n cells low high u) k in
       let f : u.form < many = ltb→lt _ _ i in
       let m = (T_and (between low high form.kind) (legal_multiplier form.kind u.multiplier) a).1 in
-      let inside = le-leb ((n + 3) * u.form + (n + 3)) (length cells) (form-inside h u.form f).inside in
-      let numbers = T→true (all in_range form.row) (legal-numbers n form (form-legal h u.form f)) in
-      simp (inside, numbers) (legal-small form.kind u.multiplier m)
+      let inside = le-leb ((n + 3) * u.form + (n + 3)) (length cells) (form_inside h u.form f).inside in
+      let numbers = T→true (all in_range form.row) (legal_numbers n form (form_legal h u.form f)) in
+      simp (inside, numbers) (legal_small form.kind u.multiplier m)
 
   pub summable : (low high : ℤ) → in_force many ps ≡ true → all (term_allowed n cells low high) ts ≡ true → Summable n cells ps ms
   summable low high i a =
@@ -137,6 +137,6 @@ module _ {n many : ℕ} {cells : List ℤ} (h : FormsHeld n many cells) {ps : Li
         few = p.few;
         paired = p.paired;
         summands =
-            all_implies (λ u. in_force_lem u && is-allowed u) (summand n cells) (term-summand low high) ts
-            (rw (all-and in_force_lem is-allowed ts) at both);
+            all_implies (λ u. in_force_lem u && is-allowed u) (summand n cells) (term_summand low high) ts
+            (rw (all_and in_force_lem is-allowed ts) at both);
       }

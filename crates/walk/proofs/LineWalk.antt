@@ -97,9 +97,9 @@ slice_is (suc f) (suc t) [] = sym (take-nil (suc t - suc f))
 slice_is (suc f) (suc t) (x ∷ xs) = let e : suc t - suc f ≡ t - f = omega arith in rw e (slice_is f t xs)
 
 -- a line has no more literals than its end is behind the one before
-pub short-line : (pool lines : List ℕ) (k : ℕ) → end_before lines (suc k) ≤ end_before lines k + longest_line
+pub short_line : (pool lines : List ℕ) (k : ℕ) → end_before lines (suc k) ≤ end_before lines k + longest_line
     → length (literals_at pool lines k) ≤ longest_line
-short-line pool lines k h = simp length-take (omega arith)
+short_line pool lines k h = simp length-take (omega arith)
 
 pub origin→le : (o : ℕ) → T (is_origin o) → (premise ≤ o) × (o ≤ derived)
 origin→le o t = let (low, high) = T_and (leb premise o) (leb o derived) t in (leb→le premise o low, leb→le o derived high)
@@ -112,16 +112,16 @@ module _ (pool lines : List ℕ) (n k from : ℕ) (at : from ≡ end_before line
   literals_are : literals_at pool lines k ≡ slice from end pool
   literals_are = rw (← at) (sym (slice_is from end pool))
 
-  pub good-line : from ≤ end → end ≤ from + longest_line → premise ≤ origin_at lines k → origin_at lines k ≤ derived
+  pub good_line : from ≤ end → end ≤ from + longest_line → premise ≤ origin_at lines k → origin_at lines k ≤ derived
       → literals_hold (2 * n) 0 (slice from end pool) ≡ true → LineGood pool lines n k
-  good-line a b c d e =
+  good_line a b c d e =
       let (ascends, names) = literals_out n (literals_at pool lines k) (true→T (ap (literals_hold (2 * n) 0) literals_are ∙ e)) in
       record {
         rise = omega arith;
         short = omega arith;
         legal = record {
           origin = and_T (leb premise (origin_at lines k)) (leb (origin_at lines k) derived) (le→leb premise _ c) (le→leb _ derived d);
-          short = short-line pool lines k (omega arith);
+          short = short_line pool lines k (omega arith);
           ascends = ascends;
           names = names;
         };
@@ -132,8 +132,8 @@ module _ (pool lines : List ℕ) (n k from : ℕ) (at : from ≡ end_before line
 
 -- ---- lines
 
-pub end-next : (lines : List ℕ) (k : ℕ) → get_or lines (line_cells * k) 0 ≡ end_before lines (k + 1)
-end-next lines k = rw (add-one k)
+pub end_next : (lines : List ℕ) (k : ℕ) → get_or lines (line_cells * k) 0 ≡ end_before lines (k + 1)
+end_next lines k = rw (add-one k)
 
 -- ends that never fall
 pub rising : (lines : List ℕ) (k n : ℕ) → k ≤ n → ((i : ℕ) → k ≤ i → i < n → end_before lines i ≤ end_before lines (suc i))

@@ -24,9 +24,9 @@ LinesGood pool lines low m = (i : ℕ) → low.lines ≤ i → i < m.lines → L
 -- what the walk from one mark to the next takes for granted
 pub record Stretch (pool lines : List ℕ) (low m : Mark) : Type 0 where
   pub forms : m.forms ≤ most_forms
-  pub line-room : line_cells * m.lines ≤ length lines
+  pub line_room : line_cells * m.lines ≤ length lines
   pub few : m.lines ≤ most_lines
-  pub pool-room : m.literals ≤ length pool
+  pub pool_room : m.literals ≤ length pool
   pub little : m.literals ≤ most_literals
   pub order : low.lines ≤ m.lines
   pub first : end_before lines low.lines ≡ low.literals

@@ -19,8 +19,8 @@ module _ {A : Type 0} where
       let k : length (drop at xs) ≤ length xs - at = simp length-drop (omega arith) in
       simp (e, take_all (length xs - at) (drop at xs) k, drop_of_length-le (drop at xs) k, drop-drop, append-nil)
 
-  pub two-written : (xs : List A) (at : ℕ) (x y : A) → at + 1 < length xs → set (set xs at x) (at + 1) y ≡ written at (x ∷ y ∷ []) xs
-  two-written xs at x y h = rw add-one (sets-eq (x ∷ y ∷ []) xs at (omega arith) ∙ append_assoc (take at xs) (x ∷ y ∷ []) (drop (at + 2) xs))
+  pub two_written : (xs : List A) (at : ℕ) (x y : A) → at + 1 < length xs → set (set xs at x) (at + 1) y ≡ written at (x ∷ y ∷ []) xs
+  two_written xs at x y h = rw add-one (sets-eq (x ∷ y ∷ []) xs at (omega arith) ∙ append_assoc (take at xs) (x ∷ y ∷ []) (drop (at + 2) xs))
 
   -- the part from `from` to `to`, all z
   pub part_cleared : (z : A) (from to : ℕ) (xs ys : List A) → from ≤ to → to ≤ length xs

@@ -1,3 +1,4 @@
+-- The invariant of `fields::read_form`: the kind and the divisor are read, and the first i cells of the row.
 use Rattle.fields.proofs.FilledLaws.{Filled}
 use Rattle.ledger.specs.Bytes.{byte_at, u16_at, i32_at}
 use Rattle.ledger.specs.Limits.{carried}

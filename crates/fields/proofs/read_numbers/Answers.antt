@@ -1,3 +1,4 @@
+-- `fields::read_numbers` meets its contract.
 use Rattle.fields.proofs.FilledLaws.{filled_none, filled_one}
 use Rattle.ledger.specs.Bytes.{byte_at}
 use native.Mathlib.Omega.{arith}

@@ -1,3 +1,4 @@
+-- The invariant of `fields::read_numbers`: the first i numbers are read.
 use Rattle.fields.proofs.FilledLaws.{Filled}
 use Rattle.ledger.specs.Bytes.{u16_at}
 use Rattle.ledger.specs.Limits.{longest_line}

@@ -1,3 +1,4 @@
+-- `fields::read_terms` meets its contract.
 use mathlib.Core.Path.{◌≡◌, refl, ◌∙◌}
 use native.Mathlib.Omega.{arith}
 use borrow.Author.Rules.{sfits_of}

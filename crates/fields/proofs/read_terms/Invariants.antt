@@ -1,3 +1,4 @@
+-- The invariant of `fields::read_terms`: the forms and multipliers of the first i terms are read.
 use Prim.Native.Nat.{◌≤◌, ◌+◌, ◌*◌, ◌-◌}
 use Rattle.rows.specs.Limits.{most_terms}
 use Rattle.ledger.specs.Bytes.{u16_at, i32_at}

@@ -35,7 +35,7 @@ pub returns-then-not-forms_hold : goal.returns-then-not-forms_hold
 returns-then-not-forms_hold c = fails (goal.at.returns-then-not-forms_hold c).Start (λ p. denied c.forms_hold.ensures (not-true _ c.if-not-forms_hold.true-raw) p.contents)
 
 pub levels_hold-requires : goal.levels_hold-requires
-levels_hold-requires c = record { counted = counted (goal.at.levels_hold-requires c).Else-not-counts_hold; pool-size = c.requires.pool-size; line-size = c.requires.line-size }
+levels_hold-requires c = record { counted = counted (goal.at.levels_hold-requires c).Else-not-counts_hold; pool_size = c.requires.pool_size; line_size = c.requires.line_size }
 
 pub returns-then-not-levels_hold : goal.returns-then-not-levels_hold
 returns-then-not-levels_hold c = fails (goal.at.returns-then-not-levels_hold c).Start (λ p. denied c.levels_hold.ensures (not-true _ c.if-not-levels_hold.true-raw) p.levels)
@@ -46,17 +46,17 @@ marks_clear-requires c = (counted (goal.at.marks_clear-requires c).Else-not-coun
 pub returns-then-not-marks_clear : goal.returns-then-not-marks_clear
 returns-then-not-marks_clear c =
     fails (goal.at.returns-then-not-marks_clear c).Start
-    (λ p. subst T (sym c.marks_clear.ensures ∙ not-true _ c.if-not-marks_clear.true-raw) p.marks-zero)
+    (λ p. subst T (sym c.marks_clear.ensures ∙ not-true _ c.if-not-marks_clear.true-raw) p.marks_zero)
 
 pub returns-then-not-forms_clear : goal.returns-then-not-forms_clear
 returns-then-not-forms_clear c =
     fails (goal.at.returns-then-not-forms_clear c).Start
-    (λ p. subst T (sym c.forms_clear.ensures ∙ not-true _ c.if-not-forms_clear.true-raw) p.forms-zero)
+    (λ p. subst T (sym c.forms_clear.ensures ∙ not-true _ c.if-not-forms_clear.true-raw) p.forms_zero)
 
 pub returns-then-not-numbers_clear : goal.returns-then-not-numbers_clear
 returns-then-not-numbers_clear c =
     fails (goal.at.returns-then-not-numbers_clear c).Start
-    (λ p. subst T (sym c.numbers_clear.ensures ∙ not-true _ c.if-not-numbers_clear.true-raw) p.pool-zero)
+    (λ p. subst T (sym c.numbers_clear.ensures ∙ not-true _ c.if-not-numbers_clear.true-raw) p.pool_zero)
 
 pub returns : goal.returns
 returns c =
@@ -69,9 +69,9 @@ returns c =
       counted = counted (goal.at.returns c).Else-not-counts_hold;
       contents = c.forms_hold.ensures.yes (not-false _ c.if-not-forms_hold.false-raw);
       levels = c.levels_hold.ensures.yes (not-false _ c.if-not-levels_hold.false-raw);
-      marks-zero = true→T (sym c.marks_clear.ensures ∙ not-false _ c.if-not-marks_clear.false-raw);
-      forms-zero = true→T (sym c.forms_clear.ensures ∙ not-false _ c.if-not-forms_clear.false-raw);
-      pool-zero = true→T (sym c.numbers_clear.ensures ∙ not-false _ c.if-not-numbers_clear.false-raw);
-      lines-zero = u;
+      marks_zero = true→T (sym c.marks_clear.ensures ∙ not-false _ c.if-not-marks_clear.false-raw);
+      forms_zero = true→T (sym c.forms_clear.ensures ∙ not-false _ c.if-not-forms_clear.false-raw);
+      pool_zero = true→T (sym c.numbers_clear.ensures ∙ not-false _ c.if-not-numbers_clear.false-raw);
+      lines_zero = u;
     }))
-    (λ p. (found unknowns a.s (cells (goal.at.returns c).Start) p).lines-zero)
+    (λ p. (found unknowns a.s (cells (goal.at.returns c).Start) p).lines_zero)

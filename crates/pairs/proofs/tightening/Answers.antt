@@ -1,3 +1,4 @@
+-- `pairs::tightening` meets its contract.
 use mathlib.Core.Path.{refl, sym, ◌∙◌}
 use native.Mathlib.Omega.{arith}
 use borrow.Author.Rules.{sfits_of}
@@ -13,7 +14,7 @@ use Rattle.ledger.specs.Checks.{both_are, tests, makes}
 use Rattle.proposals.proofs.Making.{refusing, as_rule}
 use Rattle.rules.specs.Read.{forms_in}
 use Rattle.rules.proofs.FindingWalk.{whole, past, fails, goes_on}
-use Rattle.rules.proofs.FieldLaws.{fails-first, others_decide, of_fields, both_low, both_inside, then_rows}
+use Rattle.rules.proofs.FieldLaws.{fails_first, others_decide, of_fields, both_low, both_inside, then_rows}
 use Rattle.pairs.proofs.tightening.Goals as goal
 
 pub returns-in-Fail : goal.returns-in-Fail
@@ -21,7 +22,7 @@ unfolding tests
 returns-in-Fail c =
     let factor = to_z-of_z w32 c.i32_at-c.result (sfits_of c.i32_at-c.type_inv) ∙ c.i32_at-c.ensures in of_fields unknowns c.args.count c.args.forms.now _ _ _ (λ i. TI (c.u16_at-a.ensures i) (c.u16_at-b.ensures i) (factor i)) (λ ls cells. refusing
     unknowns (forms_in unknowns c.args.count c.args.forms.now) ls (TI c.u16_at-a.result c.u16_at-b.result (to_z w32
-    (of_z w32 c.i32_at-c.result))) cells _ _ (fails-first (both_are (forms_in unknowns c.args.count c.args.forms.now) at_most
+    (of_z w32 c.i32_at-c.result))) cells _ _ (fails_first (both_are (forms_in unknowns c.args.count c.args.forms.now) at_most
     c.u16_at-a.result at_most c.u16_at-b.result) _ c.both_are-both.ensures c.in-Fail.is))
 
 pub returns-then-not-legal_factor : goal.returns-then-not-legal_factor

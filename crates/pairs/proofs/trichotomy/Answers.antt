@@ -1,3 +1,4 @@
+-- `pairs::trichotomy` meets its contract.
 use mathlib.Core.Path.{refl}
 use Rattle.rows.specs.Limits.{unknowns}
 use Rattle.ledger.specs.Checks.{tests, makes}

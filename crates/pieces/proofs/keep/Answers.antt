@@ -1,4 +1,4 @@
--- `keep` meets its contract. Invariant: the bytes before i are moved to the front.
+-- `keep` meets its contract.
 use Rattle.pieces.proofs.Moving.{sets_out, one_more, arrives}
 use Rattle.pieces.proofs.keep.Goals as goal
 

@@ -1,4 +1,4 @@
--- `keep` meets its contract. Invariant: the bytes before i are moved to the front.
+-- The invariant of `keep`: the bytes before i are moved to the front.
 use Rattle.std.proofs.Common.{◌-◌}
 use Rattle.pieces.proofs.Moving.{Moving}
 use Rattle.pieces.proofs.keep.Given as goal

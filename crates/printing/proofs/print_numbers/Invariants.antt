@@ -1,3 +1,4 @@
+-- `printing::print_numbers` ends: its index goes up to the last number.
 use Rattle.std.proofs.Common.{length, ◌-◌}
 use Rattle.printing.proofs.print_numbers.Given as goal
 

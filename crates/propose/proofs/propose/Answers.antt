@@ -1,3 +1,4 @@
+-- `propose::propose` meets its contract.
 use mathlib.Core.Path.{refl}
 use Rattle.ledger.specs.Settles.{proposed}
 use Rattle.propose.proofs.propose.Goals as goal

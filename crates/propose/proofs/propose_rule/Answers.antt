@@ -1,3 +1,4 @@
+-- `propose::propose_rule` meets its contract.
 use Rattle.session.specs.Limits.{form_cells}
 use lib.ListN.{length, take}
 use lib.Seq.{length-take-le}
@@ -6,7 +7,7 @@ use mathlib.Core.Path.{◌≡◌, refl}
 use native.Mathlib.Omega.{arith}
 use Rattle.rows.specs.Limits.{unknowns}
 use Rattle.rules.specs.Read.{forms_in}
-use Rattle.rules.proofs.HeldLaws.{form-count}
+use Rattle.rules.proofs.HeldLaws.{form_count}
 use Rattle.propose.proofs.propose_rule.Goals as goal
 
 pub form-requires : goal.form-requires
@@ -25,46 +26,46 @@ pub u16_at-requires-in-Rs-2 : goal.u16_at-requires-in-Rs-2
 u16_at-requires-in-Rs-2 c = let long : length c.args.bytes.now ≡ 8 = fixed_of c.args.bytes.now c.in-Rs.is c.requires.1 refl in omega arith
 
 pub farkas-requires : goal.farkas-requires
-farkas-requires c = (c.requires.0.form-table, counted_of c.args.bytes.now c.in-Fk.is c.requires.1 refl, c.requires.0.numbers, c.requires.0.scratch)
+farkas-requires c = (c.requires.0.in_form_table, counted_of c.args.bytes.now c.in-Fk.is c.requires.1 refl, c.requires.0.numbers, c.requires.0.scratch)
 
 pub totality-requires : goal.totality-requires
-totality-requires c = (c.requires.0.form-table, fixed_of c.args.bytes.now c.in-To.is c.requires.1 refl, c.requires.0.scratch)
+totality-requires c = (c.requires.0.in_form_table, fixed_of c.args.bytes.now c.in-To.is c.requires.1 refl, c.requires.0.scratch)
 
 pub trichotomy-requires : goal.trichotomy-requires
-trichotomy-requires c = (c.requires.0.form-table, fixed_of c.args.bytes.now c.in-Tr.is c.requires.1 refl, c.requires.0.scratch)
+trichotomy-requires c = (c.requires.0.in_form_table, fixed_of c.args.bytes.now c.in-Tr.is c.requires.1 refl, c.requires.0.scratch)
 
 pub equation-requires : goal.equation-requires
-equation-requires c = (c.requires.0.form-table, fixed_of c.args.bytes.now c.in-Eq.is c.requires.1 refl, c.requires.0.scratch)
+equation-requires c = (c.requires.0.in_form_table, fixed_of c.args.bytes.now c.in-Eq.is c.requires.1 refl, c.requires.0.scratch)
 
 pub tightening-requires : goal.tightening-requires
-tightening-requires c = (c.requires.0.form-table, fixed_of c.args.bytes.now c.in-Ti.is c.requires.1 refl, c.requires.0.scratch)
+tightening-requires c = (c.requires.0.in_form_table, fixed_of c.args.bytes.now c.in-Ti.is c.requires.1 refl, c.requires.0.scratch)
 
 pub weakening-requires : goal.weakening-requires
-weakening-requires c = (c.requires.0.form-table, fixed_of c.args.bytes.now c.in-Wk.is c.requires.1 refl, c.requires.0.scratch)
+weakening-requires c = (c.requires.0.in_form_table, fixed_of c.args.bytes.now c.in-Wk.is c.requires.1 refl, c.requires.0.scratch)
 
 pub clash-requires : goal.clash-requires
-clash-requires c = (c.requires.0.form-table, counted_of c.args.bytes.now c.in-Cl.is c.requires.1 refl, c.requires.0.numbers, c.requires.0.scratch)
+clash-requires c = (c.requires.0.in_form_table, counted_of c.args.bytes.now c.in-Cl.is c.requires.1 refl, c.requires.0.numbers, c.requires.0.scratch)
 
 pub remainder-requires : goal.remainder-requires
-remainder-requires c = (c.requires.0.form-table, counted_of c.args.bytes.now c.in-Ar.is c.requires.1 refl, c.requires.0.scratch)
+remainder-requires c = (c.requires.0.in_form_table, counted_of c.args.bytes.now c.in-Ar.is c.requires.1 refl, c.requires.0.scratch)
 
 pub loosening-requires : goal.loosening-requires
-loosening-requires c = (c.requires.0.form-table, fixed_of c.args.bytes.now c.in-Lf.is c.requires.1 refl, c.requires.0.scratch)
+loosening-requires c = (c.requires.0.in_form_table, fixed_of c.args.bytes.now c.in-Lf.is c.requires.1 refl, c.requires.0.scratch)
 
 pub scaling_up-requires : goal.scaling_up-requires
-scaling_up-requires c = (c.requires.0.form-table, fixed_of c.args.bytes.now c.in-Su.is c.requires.1 refl, c.requires.0.scratch)
+scaling_up-requires c = (c.requires.0.in_form_table, fixed_of c.args.bytes.now c.in-Su.is c.requires.1 refl, c.requires.0.scratch)
 
 pub scaling_down-requires : goal.scaling_down-requires
-scaling_down-requires c = (c.requires.0.form-table, fixed_of c.args.bytes.now c.in-Sd.is c.requires.1 refl, c.requires.0.scratch)
+scaling_down-requires c = (c.requires.0.in_form_table, fixed_of c.args.bytes.now c.in-Sd.is c.requires.1 refl, c.requires.0.scratch)
 
 pub returns-in-Fm : goal.returns-in-Fm
 returns-in-Fm c = rw c.in-Fm.is (part_proposes c.args.cells.now (form_cells unknowns) (c.form.ensures _ _ _ _) (omega arith))
 
 pub returns-in-Pm : goal.returns-in-Pm
-returns-in-Pm c = rw c.in-Pm.is (c.premise.ensures (forms_in unknowns c.args.counts.forms c.args.forms.now) _ _ _ (form-count c.requires.0.form-table))
+returns-in-Pm c = rw c.in-Pm.is (c.premise.ensures (forms_in unknowns c.args.counts.forms c.args.forms.now) _ _ _ (form_count c.requires.0.in_form_table))
 
 pub returns-in-Rs : goal.returns-in-Rs
-returns-in-Rs c = rw c.in-Rs.is (rw (c.u16_at.ensures, c.u16_at-in-Rs.ensures, c.u16_at-in-Rs-2.ensures) at (c.resolve.ensures unknowns (forms_in unknowns c.args.counts.forms c.args.forms.now) (take (form_cells unknowns) c.args.cells.now) (form-count c.requires.0.form-table)))
+returns-in-Rs c = rw c.in-Rs.is (rw (c.u16_at.ensures, c.u16_at-in-Rs.ensures, c.u16_at-in-Rs-2.ensures) at (c.resolve.ensures unknowns (forms_in unknowns c.args.counts.forms c.args.forms.now) (take (form_cells unknowns) c.args.cells.now) (form_count c.requires.0.in_form_table)))
 
 pub returns-in-Fk : goal.returns-in-Fk
 returns-in-Fk c = rw c.in-Fk.is (c.farkas.ensures _ _ _)

@@ -22,13 +22,13 @@ use Rattle.ledger.specs.Checks.{tests}
 use Rattle.rules.specs.Read.{forms_in}
 use Rattle.rules.proofs.HeldLaws.{in_force, picked}
 use Rattle.rules.proofs.FindingWalk.{whole, past, fails, passes, LeftFrom}
-use Rattle.remainders.proofs.Picks.{forms-read, divided_read, rows_read}
+use Rattle.remainders.proofs.Picks.{forms_read, divided_read, rows_read}
 use Rattle.remainders.proofs.judge_remainder.Goals as goal
 use Rattle.remainders.proofs.judge_remainder.Goals.{After-are_neighbours, After-divisors_are, Else-not-all_below, Else-not-divisors_are, Start}
 
 pub returns-then-not-all_below : goal.returns-then-not-all_below
 unfolding tests
-returns-then-not-all_below c = fails whole (forms-read c.requires.0 c.args.picks.now ∙ sym c.all_below.ensures ∙ not-true _ c.if-not-all_below.true-raw)
+returns-then-not-all_below c = fails whole (forms_read c.requires.0 c.args.picks.now ∙ sym c.all_below.ensures ∙ not-true _ c.if-not-all_below.true-raw)
 
 -- every form is in force
 forms_in_lem : (c : Else-not-all_below) → let a = c.args in in_force a.count a.picks.now ≡ true
@@ -40,7 +40,7 @@ From k s = let a = s.args in LeftFrom k unknowns a.count a.forms.now (AR a.picks
 
 past1 : (c : Else-not-all_below) → From 1 (goal.at.Else-not-all_below c).Start
 unfolding tests
-past1 c = past whole (forms-read c.requires.0 c.args.picks.now ∙ forms_in_lem c)
+past1 c = past whole (forms_read c.requires.0 c.args.picks.now ∙ forms_in_lem c)
 
 pub overflow_cast-picks : goal.overflow_cast-picks
 overflow_cast-picks c = sfits_of (omega (arith, c.requires.2))

@@ -13,13 +13,13 @@ use Rattle.rows.specs.Conditions.{scales}
 use Rattle.ledger.specs.Checks.{both_are}
 use Rattle.rules.specs.Read.{forms_in}
 use Rattle.rules.proofs.FindingWalk.{whole, past, fails, goes_on}
-use Rattle.rules.proofs.FieldLaws.{fails-first, others_decide, both_inside, then_forms}
+use Rattle.rules.proofs.FieldLaws.{fails_first, others_decide, both_inside, then_forms}
 use Rattle.remainders.proofs.judge_scaling.Goals as goal
 
 pub returns-in-Fail : goal.returns-in-Fail
 returns-in-Fail c =
     let a = c.args in
-    fails-first (both_are (forms_in unknowns a.count a.forms.now) is_divided a.g is_divided a.h) _ c.both_are-both.ensures c.in-Fail.is
+    fails_first (both_are (forms_in unknowns a.count a.forms.now) is_divided a.g is_divided a.h) _ c.both_are-both.ensures c.in-Fail.is
 
 pub returns-then-k-lt1 : goal.returns-then-k-lt1
 returns-then-k-lt1 c =

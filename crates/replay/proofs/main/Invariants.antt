@@ -1,3 +1,4 @@
+-- `replay::main` ends: its index goes up to the last argument.
 use Rattle.std.proofs.Common.{◌-◌}
 use Rattle.replay.proofs.main.Given as goal
 

@@ -1,6 +1,7 @@
+-- `resolution::resolve` meets its contract.
 use Rattle.resolution.proofs.Resolving.{parent, no_pivot, no_first, no_second, first_lacks, second_lacks, too_long, resolved, the_line}
 use Rattle.proposals.proofs.Making.{refusing, making}
-use Rattle.rules.proofs.HeldLaws.{line-few}
+use Rattle.rules.proofs.HeldLaws.{line_few}
 use lib.ListN.{length}
 use native.Mathlib.Omega.{arith}
 use native.Mathlib.Nat.{sub-zero}
@@ -20,7 +21,7 @@ pub returns-then-count-j : goal.returns-then-count-j
 returns-then-count-j c = λ n fs cells e. refusing n fs _ _ cells _ _ (no_second c.requires.0 n c.args.forms fs e c.args.pivot c.args.i c.args.j (omega arith) (omega arith) (omega arith))
 
 pub gather-n-requires : goal.gather-n-requires
-gather-n-requires c = omega (arith, ap (λ (x : List ℕ). length x) c.literals_of-a.ensures, line-few c.requires.0 c.args.i (omega arith), c.requires.2)
+gather-n-requires c = omega (arith, ap (λ (x : List ℕ). length x) c.literals_of-a.ensures, line_few c.requires.0 c.args.i (omega arith), c.requires.2)
 
 pub returns-then-n-a : goal.returns-then-n-a
 returns-then-n-a c =
@@ -28,12 +29,12 @@ returns-then-n-a c =
       arith,
       ap (λ (x :
           List ℕ). length x) c.literals_of-a.ensures,
-      line-few c.requires.0 c.args.i (omega arith),
+      line_few c.requires.0 c.args.i (omega arith),
       c.requires.2,
     ))) c.if-n-a.true)
 
 pub gather-m-requires : goal.gather-m-requires
-gather-m-requires c = omega (arith, ap (λ (x : List ℕ). length x) c.literals_of-b.ensures, line-few c.requires.0 c.args.j (omega arith), c.requires.3)
+gather-m-requires c = omega (arith, ap (λ (x : List ℕ). length x) c.literals_of-b.ensures, line_few c.requires.0 c.args.j (omega arith), c.requires.3)
 
 pub returns-then-m-b : goal.returns-then-m-b
 returns-then-m-b c =
@@ -41,20 +42,20 @@ returns-then-m-b c =
       arith,
       ap (λ (x :
           List ℕ). length x) c.literals_of-a.ensures,
-      line-few c.requires.0 c.args.i (omega arith),
+      line_few c.requires.0 c.args.i (omega arith),
       c.requires.2,
     ))) c.if-n-a.false (parent c.literals_of-b.ensures c.gather-m.ensures (omega (
       arith,
       ap (λ (x : List ℕ). length x) c.literals_of-b.ensures,
-      line-few c.requires.0 c.args.j (omega arith),
+      line_few c.requires.0 c.args.j (omega arith),
       c.requires.3,
     ))) c.if-m-b.true)
 
 pub slice_bounds-longer_than-end : goal.slice_bounds-longer_than-end
-slice_bounds-longer_than-end c = omega (arith, c.gather-n.ensures.few, ap (λ (x : List ℕ). length x) c.literals_of-a.ensures, line-few c.requires.0 c.args.i (omega arith), c.requires.2)
+slice_bounds-longer_than-end c = omega (arith, c.gather-n.ensures.few, ap (λ (x : List ℕ). length x) c.literals_of-a.ensures, line_few c.requires.0 c.args.i (omega arith), c.requires.2)
 
 pub slice_bounds-longer_than-end-2 : goal.slice_bounds-longer_than-end-2
-slice_bounds-longer_than-end-2 c = omega (arith, c.gather-m.ensures.few, ap (λ (x : List ℕ). length x) c.literals_of-b.ensures, line-few c.requires.0 c.args.j (omega arith), c.requires.3)
+slice_bounds-longer_than-end-2 c = omega (arith, c.gather-m.ensures.few, ap (λ (x : List ℕ). length x) c.literals_of-b.ensures, line_few c.requires.0 c.args.j (omega arith), c.requires.3)
 
 pub returns-then-longer_than : goal.returns-then-longer_than
 returns-then-longer_than c =
@@ -62,13 +63,13 @@ returns-then-longer_than c =
     c.literals_of-a.ensures c.gather-n.ensures (omega (
       arith,
       ap (λ (x : List ℕ). length x) c.literals_of-a.ensures,
-      line-few c.requires.0 c.args.i (omega arith),
+      line_few c.requires.0 c.args.i (omega arith),
       c.requires.2,
     ))) c.if-n-a.false (parent c.literals_of-b.ensures
     c.gather-m.ensures (omega (
       arith,
       ap (λ (x : List ℕ). length x) c.literals_of-b.ensures,
-      line-few c.requires.0 c.args.j (omega arith),
+      line_few c.requires.0 c.args.j (omega arith),
       c.requires.3,
     ))) c.if-m-b.false (ltb-true _ _ more))
 
@@ -81,13 +82,13 @@ returns c =
     let u = (parent c.literals_of-a.ensures c.gather-n.ensures (omega (
       arith,
       ap (λ (x : List ℕ). length x) c.literals_of-a.ensures,
-      line-few c.requires.0 c.args.i left,
+      line_few c.requires.0 c.args.i left,
       c.requires.2,
     ))) in
     let v = (parent c.literals_of-b.ensures c.gather-m.ensures (omega (
       arith,
       ap (λ (x : List ℕ). length x) c.literals_of-b.ensures,
-      line-few c.requires.0 c.args.j right,
+      line_few c.requires.0 c.args.j right,
       c.requires.3,
     ))) in
     making n fs _ _ cells _ _ (resolved c.requires.0 n c.args.forms fs e c.args.pivot c.args.i c.args.j low left

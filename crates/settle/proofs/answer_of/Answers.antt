@@ -1,3 +1,4 @@
+-- `settle::answer_of` meets its contract.
 use Rattle.settle.proofs.answer_of.Goals as goal
 
 pub returns-in-Refused : goal.returns-in-Refused

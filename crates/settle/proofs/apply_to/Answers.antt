@@ -1,3 +1,4 @@
+-- `settle::apply_to` meets its contract.
 use Rattle.settle.proofs.apply_to.Goals as goal
 
 pub levelled-requires : goal.levelled-requires

@@ -1,10 +1,11 @@
+-- `settle::keep_form` meets its contract.
 use native.Mathlib.Omega.{arith}
-use Rattle.settle.proofs.OnLedger.{form-full}
+use Rattle.settle.proofs.OnLedger.{form_full}
 use Rattle.settle.proofs.Tops.{form_adds}
 use Rattle.settle.proofs.keep_form.Goals as goal
 
 pub returns-then-counts-ge-MOST_FORMS : goal.returns-then-counts-ge-MOST_FORMS
-returns-then-counts-ge-MOST_FORMS c = λ ps ls s e h. record { result = form-full h _ (rw (← e) at c.if-counts-ge-MOST_FORMS.true); place = tt }
+returns-then-counts-ge-MOST_FORMS c = λ ps ls s e h. record { result = form_full h _ (rw (← e) at c.if-counts-ge-MOST_FORMS.true); place = tt }
 
 pub add_form-requires : goal.add_form-requires
 add_form-requires c = record { count = omega arith; table = c.requires.0; whole = c.requires.1 }

@@ -1,3 +1,4 @@
+-- `settle::keep_line` meets its contract.
 use mathlib.Core.Path.{sym, ◌∙◌}
 use Prim.Native.Nat.{◌-◌, ◌≤◌, ◌<◌}
 use native.Mathlib.Omega.{arith}
@@ -5,15 +6,15 @@ use borrow.Author.Tests.{ltb-true, ltb-false}
 use lib.ListN.{length}
 use Rattle.ledger.specs.Limits.{most_literals}
 use Rattle.ledger.specs.Literals.{joined}
-use Rattle.settle.proofs.OnLedger.{line-full, pool-full}
+use Rattle.settle.proofs.OnLedger.{line_full, pool_full}
 use Rattle.settle.proofs.Tops.{line_adds}
 use Rattle.settle.proofs.keep_line.Goals as goal
 
 pub returns-then-counts-ge-MOST_LINES : goal.returns-then-counts-ge-MOST_LINES
-returns-then-counts-ge-MOST_LINES c = λ fs s e h. record { result = line-full h _ (rw (← e) at c.if-counts-ge-MOST_LINES.true); place = tt }
+returns-then-counts-ge-MOST_LINES c = λ fs s e h. record { result = line_full h _ (rw (← e) at c.if-counts-ge-MOST_LINES.true); place = tt }
 
 pub returns-then-longer_than : goal.returns-then-longer_than
-returns-then-longer_than c = λ fs s e h. let over : most_literals - c.args.top.counts.literals < length (joined c.args.a.now c.args.b.now) = ltb-true _ _ (sym c.longer_than.ensures ∙ c.if-longer_than.true) in record { result = pool-full h _ (rw (← e) at c.if-counts-ge-MOST_LINES.false) (rw (← e) at over); place = tt }
+returns-then-longer_than c = λ fs s e h. let over : most_literals - c.args.top.counts.literals < length (joined c.args.a.now c.args.b.now) = ltb-true _ _ (sym c.longer_than.ensures ∙ c.if-longer_than.true) in record { result = pool_full h _ (rw (← e) at c.if-counts-ge-MOST_LINES.false) (rw (← e) at over); place = tt }
 
 pub add_line-end-requires : goal.add_line-end-requires
 add_line-end-requires c = let low : length (joined c.args.a.now c.args.b.now) ≤ most_literals - c.args.top.counts.literals = ltb-false _ _ (sym c.longer_than.ensures ∙ c.if-longer_than.false) in record { count = omega arith; literals = omega (arith, low, c.requires.few); pool = c.requires.pool; table = c.requires.table }

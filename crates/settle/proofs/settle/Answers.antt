@@ -1,6 +1,7 @@
+-- `settle::settle` meets its contract.
 use native.Mathlib.Nat.{sub-zero}
 use Rattle.ledger.specs.Settles.{settles}
-use Rattle.settle.proofs.Tops.{seen-levels, seen-literals}
+use Rattle.settle.proofs.Tops.{seen_levels, seen_literals}
 use Rattle.proposals.specs.Proposing.{Fits, Within}
 use Rattle.proposals.specs.declared.Proposal.TheVariants.{Line}
 use Rattle.proposals.specs.declared.Proposal.{Proposal}
@@ -14,7 +15,7 @@ fits_line : {p : Proposal} {x : NewLine} {xs ys : List ℕ} → p ≡ Line x →
 fits_line {xs = xs} {ys} e f = subst (λ (q : Proposal). Fits q xs ys) e f
 
 pub keep_form-requires : goal.keep_form-requires
-keep_form-requires c = (c.requires.0.held.exact.sized.form-size, c.requires.1)
+keep_form-requires c = (c.requires.0.held.exact.sized.form_size, c.requires.1)
 
 pub slice_bounds-keep_line-end : goal.slice_bounds-keep_line-end
 slice_bounds-keep_line-end c = (fits_line c.in-Line.is c.requires.2).first
@@ -23,10 +24,10 @@ pub slice_bounds-keep_line-end-in-Line : goal.slice_bounds-keep_line-end-in-Line
 slice_bounds-keep_line-end-in-Line c = (fits_line c.in-Line.is c.requires.2).second
 
 pub keep_line-requires : goal.keep_line-requires
-keep_line-requires c = record { pool = c.requires.0.held.exact.sized.pool-size; table = c.requires.0.held.exact.sized.line-size; few = seen-literals c.requires.0 }
+keep_line-requires c = record { pool = c.requires.0.held.exact.sized.pool_size; table = c.requires.0.held.exact.sized.line_size; few = seen_literals c.requires.0 }
 
 pub open_level-requires : goal.open_level-requires
-open_level-requires c = seen-levels c.requires.0
+open_level-requires c = seen_levels c.requires.0
 
 pub returns-in-Refused : goal.returns-in-Refused
 unfolding settles

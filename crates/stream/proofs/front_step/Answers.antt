@@ -2,7 +2,7 @@
 use mathlib.Core.Path.{subst}
 use native.Mathlib.Nat.{sub-zero}
 use Rattle.records.specs.Marks.{Whole, Fronted, record_mark_of}
-use Rattle.stream.proofs.Running.{wrong_front, whole-front}
+use Rattle.stream.proofs.Running.{wrong_front, whole_front}
 use Rattle.stream.proofs.front_step.Goals as goal
 use Rattle.stream.proofs.front_step.Goals.{In-Record}
 
@@ -20,4 +20,4 @@ pub returns-in-Wrong : goal.returns-in-Wrong
 returns-in-Wrong c = wrong_front (subst (Fronted c.args.rest.now) c.in-Wrong.is c.read_front.ensures)
 
 pub returns-in-Record : goal.returns-in-Record
-returns-in-Record c = whole-front (whole (goal.at.returns-in-Record c).In-Record) c.change_of-change.ensures
+returns-in-Record c = whole_front (whole (goal.at.returns-in-Record c).In-Record) c.change_of-change.ensures

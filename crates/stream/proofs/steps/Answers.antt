@@ -1,5 +1,4 @@
--- `stream::steps` meets its contract. The loop's invariant: so many records and bytes are accepted, and what is left of the stream decides
--- the whole; and what is lent for each record is long enough.
+-- `stream::steps` meets its contract.
 use mathlib.Core.Path.{◌≡◌, refl, sym, ◌∙◌}
 use native.Mathlib.Omega.{arith}
 use Rattle.rows.specs.Limits.{unknowns}
@@ -35,10 +34,10 @@ pub loop-bytes-init : goal.loop-bytes-init
 loop-bytes-init c = (sets_out unknowns c.args.s _ c.counts-counts.ensures _ c.requires, refl, refl, refl)
 
 pub offset_bounds-marks-last_place : goal.offset_bounds-marks-last_place
-offset_bounds-marks-last_place c = omega (arith, c.last_place.ensures, (held_clauses c.loop-bytes.invariant.0.held).few-levels)
+offset_bounds-marks-last_place c = omega (arith, c.last_place.ensures, (held_clauses c.loop-bytes.invariant.0.held).few_levels)
 
 pub bounds-marks-last_place : goal.bounds-marks-last_place
-bounds-marks-last_place c = omega (arith, c.last_place.ensures, (held_clauses c.loop-bytes.invariant.0.held).few-levels)
+bounds-marks-last_place c = omega (arith, c.last_place.ensures, (held_clauses c.loop-bytes.invariant.0.held).few_levels)
 
 pub front_step-step-requires : goal.front_step-step-requires
 front_step-step-requires c = (
@@ -54,13 +53,13 @@ pub overflow_add-end : goal.overflow_add-end
 overflow_add-end c = omega (arith, (turned (goal.at.overflow_add-end c).After-front_step-step).within)
 
 pub shape_of-forms-in-Refused : goal.shape_of-forms-in-Refused
-shape_of-forms-in-Refused c = (turned (goal.at.shape_of-forms-in-Refused c).After-front_step-step).held.exact.sized.form-size ∙ sym c.requires.exact.sized.form-size
+shape_of-forms-in-Refused c = (turned (goal.at.shape_of-forms-in-Refused c).After-front_step-step).held.exact.sized.form_size ∙ sym c.requires.exact.sized.form_size
 
 pub shape_of-pool-in-Refused : goal.shape_of-pool-in-Refused
-shape_of-pool-in-Refused c = (turned (goal.at.shape_of-pool-in-Refused c).After-front_step-step).held.exact.sized.pool-size ∙ sym c.requires.exact.sized.pool-size
+shape_of-pool-in-Refused c = (turned (goal.at.shape_of-pool-in-Refused c).After-front_step-step).held.exact.sized.pool_size ∙ sym c.requires.exact.sized.pool_size
 
 pub shape_of-lines-in-Refused : goal.shape_of-lines-in-Refused
-shape_of-lines-in-Refused c = (turned (goal.at.shape_of-lines-in-Refused c).After-front_step-step).held.exact.sized.line-size ∙ sym c.requires.exact.sized.line-size
+shape_of-lines-in-Refused c = (turned (goal.at.shape_of-lines-in-Refused c).After-front_step-step).held.exact.sized.line_size ∙ sym c.requires.exact.sized.line_size
 
 pub returns-in-Refused : goal.returns-in-Refused
 returns-in-Refused c = c.ended.ensures _ ∙ set_out unknowns c.args.s _ c.counts-counts.ensures _ ((turned (goal.at.returns-in-Refused c).After-front_step-step).stops c.in-Refused.is)

@@ -1,5 +1,5 @@
--- `stream::steps` meets its contract. The loop's invariant: so many records and bytes are accepted, and what is left of the stream decides
--- the whole; and what is lent for each record is long enough.
+-- The invariant of `stream::steps`: so many records and bytes are accepted, and what is left of the stream decides the whole; and what is lent for
+-- each record is long enough.
 use mathlib.Core.Path.{◌≡◌}
 use Prim.Native.Nat.{◌-◌}
 use lib.ListN.{length}

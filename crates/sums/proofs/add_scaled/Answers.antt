@@ -1,4 +1,4 @@
--- `sums::add_scaled` meets its contract. Invariant: the cells before j hold their sums, those from j on are as they were.
+-- `sums::add_scaled` meets its contract.
 use Prim.Native.Nat.{◌+◌}
 use native.Mathlib.Omega.{arith}
 use borrow.Author.Rules.{sfits_of}

@@ -1,4 +1,4 @@
--- `sums::add_scaled` meets its contract. Invariant: the cells before j hold their sums, those from j on are as they were.
+-- The invariant of `sums::add_scaled`: the cells before j hold their sums, those from j on are as they were.
 use mathlib.Core.List.{◌++◌}
 use Prim.Native.Nat.{◌≤◌, ◌-◌}
 use lib.ListN.{length, take, drop}

@@ -1,4 +1,4 @@
--- `sums::lowest` meets its contract. Invariant: what the coefficients from k on reach is what all of them reach.
+-- `sums::lowest` meets its contract.
 use mathlib.Core.Path.{sym, ap, ◌∙◌}
 use Prim.Native.Nat.{◌+◌}
 use native.Mathlib.Omega.{arith}
@@ -12,7 +12,7 @@ use mir.ValLaws.{to_z-of_z}
 use Rattle.ints.specs.Tests.{divides}
 use Rattle.rows.specs.declared.Reached.TheVariants.{Coefficient, Constant}
 use Rattle.rows.specs.Summable.{reached}
-use Rattle.rows.proofs.SumLaws.{lowest-next, lowest-stop, lowest_over}
+use Rattle.rows.proofs.SumLaws.{lowest_next, lowest_stop, lowest_over}
 use Rattle.sums.proofs.lowest.Goals as goal
 
 pub is_multiple-requires : goal.is_multiple-requires
@@ -28,7 +28,7 @@ returns-then-not-is_multiple c =
     let e = to_z-of_z w64 (get_or sums (k + 1) (pos 0)) (sfits_of c.s-1.given) in
     let m = to_z-of_z w32 c.args.modulus c.ranges.modulus in
     ap (Coefficient k) e
-    ∙ lowest-stop d (get_or sums 0 (pos 0)) sums k (omega arith) (sym (c.is_multiple.ensures ∙ ap (divides d) e) ∙ not-true _ c.if-not-is_multiple.true-raw)
+    ∙ lowest_stop d (get_or sums 0 (pos 0)) sums k (omega arith) (sym (c.is_multiple.ensures ∙ ap (divides d) e) ∙ not-true _ c.if-not-is_multiple.true-raw)
     ∙ c.loop-k.invariant.1
     ∙ ap (λ (z : ℤ). reached z sums) m
 
@@ -39,7 +39,7 @@ loop-k-preserved c =
     let k = c.loop-k.k in
     let e = to_z-of_z w64 (get_or sums (k + 1) (pos 0)) (sfits_of c.s-1.given) in (
       omega arith,
-      lowest-next d (get_or sums 0 (pos 0)) sums k (omega arith) (sym (c.is_multiple.ensures ∙ ap (divides d) e) ∙ not-false _ c.if-not-is_multiple.false-raw)
+      lowest_next d (get_or sums 0 (pos 0)) sums k (omega arith) (sym (c.is_multiple.ensures ∙ ap (divides d) e) ∙ not-false _ c.if-not-is_multiple.false-raw)
           ∙ c.loop-k.invariant.1,
     )
 

@@ -1,4 +1,4 @@
--- `sums::lowest` meets its contract. Invariant: what the coefficients from k on reach is what all of them reach.
+-- The invariant of `sums::lowest`: what the coefficients from k on reach is what all of them reach.
 use mathlib.Core.Path.{◌≡◌}
 use Prim.Native.Nat.{◌+◌, ◌-◌, ◌≤◌}
 use lib.IntN.{pos}

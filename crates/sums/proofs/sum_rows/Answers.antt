@@ -1,4 +1,4 @@
--- `sums::sum_rows` meets its contract. Invariant: the terms from i on, added to the sums so far, give the whole sum.
+-- `sums::sum_rows` meets its contract.
 use mathlib.Core.Path.{◌≡◌, refl, sym, ◌∙◌}
 use Prim.Native.Nat.{◌+◌, ◌*◌}
 use native.Mathlib.Omega.{arith}
@@ -12,11 +12,11 @@ use Rattle.rows.specs.Limits.{unknowns}
 use Rattle.rows.specs.Row.{plus, scaled}
 use Rattle.rows.specs.Summable.{row_at}
 use Rattle.rows.proofs.TermLaws.{summand_at}
-use Rattle.rows.proofs.SumLaws.{largest_term, within-zeros, grown, room, length_grown, sum_step, sum_over}
+use Rattle.rows.proofs.SumLaws.{largest_term, within_zeros, grown, room, length_grown, sum_step, sum_over}
 use Rattle.sums.proofs.sum_rows.Goals as goal
 
 pub loop-i-init : goal.loop-i-init
-loop-i-init c = (omega arith, refl, within-zeros (unknowns + 1), refl)
+loop-i-init c = (omega arith, refl, within_zeros (unknowns + 1), refl)
 
 pub row-requires : goal.row-requires
 row-requires c = (summand_at c.requires c.loop-i.i c.loop-i-test.true).inside

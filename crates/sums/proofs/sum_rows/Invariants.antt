@@ -1,4 +1,4 @@
--- `sums::sum_rows` meets its contract. Invariant: the terms from i on, added to the sums so far, give the whole sum.
+-- The invariant of `sums::sum_rows`: the terms from i on, added to the sums so far, give the whole sum.
 use mathlib.Core.Path.{◌≡◌}
 use Prim.Native.Nat.{◌+◌, ◌*◌, ◌-◌, ◌≤◌}
 use lib.ListN.{length, drop}

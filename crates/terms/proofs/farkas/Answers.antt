@@ -1,3 +1,4 @@
+-- `terms::farkas` meets its contract.
 use mathlib.Core.Path.{◌≡◌, ap, ◌∙◌}
 use mathlib.Core.List.{List, [], map}
 use Prim.Native.Nat.{ℕ}

@@ -17,7 +17,7 @@ use Rattle.rows.specs.Summable.{row_at}
 use Rattle.rows.specs.Summable.{terms, reached, Summable}
 use Rattle.rows.specs.Sum.{summed}
 use Rattle.rows.specs.Conditions.{clash}
-use Rattle.rows.proofs.Reaching.{reached-constant, clash-reached, clash_stray}
+use Rattle.rows.proofs.Reaching.{reached_constant, clash_reached, clash_stray}
 use Rattle.rows.proofs.SumLaws.{small_sums}
 use Rattle.ledger.specs.Literals.{ascending}
 use mathlib.Core.List.{List, [], ◌∷◌}
@@ -140,14 +140,14 @@ reaches c =
     c.combine.ensures ∙ ap (λ (x : ℤ). reached x (total (goal.at.After-combine c).Else-not-terms_allowed)) (modulus_is (goal.at.After-combine c).After-divisor-d)
 
 -- the constant, from its bits
-constant-is : (c : In-Constant) → to_z w64 (of_z w64 c.in-Constant.k) ≡ c.in-Constant.k
-constant-is c = to_z-of_z w64 c.in-Constant.k (sfits_of c.in-Constant.known_told-1-own.given.0.1)
+constant_is : (c : In-Constant) → to_z w64 (of_z w64 c.in-Constant.k) ≡ c.in-Constant.k
+constant_is c = to_z-of_z w64 c.in-Constant.k (sfits_of c.in-Constant.known_told-1-own.given.0.1)
 
 pub is_multiple-requires : goal.is_multiple-requires
 is_multiple-requires c =
     let a = c.args in
-    let constant = (reached-constant (first (goal.at.is_multiple-requires c).Else-not-terms_allowed) (total (goal.at.is_multiple-requires c).Else-not-terms_allowed) c.in-Constant.k (sym (reaches (goal.at.is_multiple-requires c).After-combine) ∙ c.in-Constant.is)).1 in
-    rw (constant-is c, ← constant) ((small_sums unknowns a.forms.now a.picks.now a.multipliers.now (may_sum (goal.at.is_multiple-requires c).Else-not-terms_allowed)).small 0)
+    let constant = (reached_constant (first (goal.at.is_multiple-requires c).Else-not-terms_allowed) (total (goal.at.is_multiple-requires c).Else-not-terms_allowed) c.in-Constant.k (sym (reaches (goal.at.is_multiple-requires c).After-combine) ∙ c.in-Constant.is)).1 in
+    rw (constant_is c, ← constant) ((small_sums unknowns a.forms.now a.picks.now a.multipliers.now (may_sum (goal.at.is_multiple-requires c).Else-not-terms_allowed)).small 0)
 
 pub returns-in-Coefficient : goal.returns-in-Coefficient
 returns-in-Coefficient c =
@@ -159,8 +159,8 @@ returns-in-Coefficient c =
 sum_is : (c : After-is_multiple) →
     clash (first (goal.at.After-is_multiple c).Else-not-terms_allowed) (total (goal.at.After-is_multiple c).Else-not-terms_allowed) ≡ not c.is_multiple.result
 sum_is c =
-    clash-reached (first (goal.at.After-is_multiple c).Else-not-terms_allowed) (total (goal.at.After-is_multiple c).Else-not-terms_allowed) c.in-Constant.k (sym (reaches (goal.at.After-is_multiple c).After-combine) ∙ c.in-Constant.is)
-    ∙ ap not (sym (c.is_multiple.ensures ∙ ap₂ divides (modulus_is (goal.at.After-is_multiple c).After-divisor-d) (constant-is (goal.at.After-is_multiple c).In-Constant)))
+    clash_reached (first (goal.at.After-is_multiple c).Else-not-terms_allowed) (total (goal.at.After-is_multiple c).Else-not-terms_allowed) c.in-Constant.k (sym (reaches (goal.at.After-is_multiple c).After-combine) ∙ c.in-Constant.is)
+    ∙ ap not (sym (c.is_multiple.ensures ∙ ap₂ divides (modulus_is (goal.at.After-is_multiple c).After-divisor-d) (constant_is (goal.at.After-is_multiple c).In-Constant)))
 
 pub returns-then-is_multiple : goal.returns-then-is_multiple
 returns-then-is_multiple c =

@@ -10,7 +10,7 @@ use mir.Syntax.{w64}
 use mir.Val.{to_z, of_z}
 use mir.ValLaws.{to_z-of_z}
 use Rattle.ints.specs.Tests.{all, eq_z}
-use Rattle.ints.proofs.Order.{lt→not-le, not-lt→le}
+use Rattle.ints.proofs.Order.{lt→not_le, not_lt→le}
 use Rattle.rows.specs.Limits.{unknowns}
 use Rattle.rows.specs.Row.{Row}
 use Rattle.rows.specs.Form.{at_most, is_zero}
@@ -18,7 +18,7 @@ use Rattle.rows.specs.Summable.{row_at}
 use Rattle.rows.specs.Summable.{terms}
 use Rattle.rows.specs.Sum.{summed}
 use Rattle.rows.specs.Conditions.{farkas}
-use Rattle.rows.proofs.Reaching.{farkas-reached, farkas_stray}
+use Rattle.rows.proofs.Reaching.{farkas_reached, farkas_stray}
 use Rattle.ledger.specs.Literals.{ascending}
 use mathlib.Core.List.{List, [], ◌∷◌}
 use Rattle.ledger.specs.Record.{FK}
@@ -94,19 +94,19 @@ returns-in-Coefficient c =
     farkas_found p.0 p.1 (fails (past_allowed (goal.at.returns-in-Coefficient c).Else-not-terms_allowed) (farkas_stray _ _ _ (sym c.combine.ensures ∙ c.in-Coefficient.is)))
 
 -- the constant, from its bits
-constant-is : (c : In-Constant) → to_z w64 (of_z w64 c.in-Constant.k) ≡ c.in-Constant.k
-constant-is c = to_z-of_z w64 c.in-Constant.k (sfits_of c.in-Constant.known_told-1-own.given.0.1)
+constant_is : (c : In-Constant) → to_z w64 (of_z w64 c.in-Constant.k) ≡ c.in-Constant.k
+constant_is c = to_z-of_z w64 c.in-Constant.k (sfits_of c.in-Constant.known_told-1-own.given.0.1)
 
 pub returns-then-k-lt1 : goal.returns-then-k-lt1
 returns-then-k-lt1 c =
     let k = c.in-Constant in
     let p = c.requires in
-    let below = lt→not-le k.k (pos 1) (rw (constant-is (goal.at.returns-then-k-lt1 c).In-Constant) at c.if-k-lt1.true) in
-    farkas_found p.0 p.1 (fails (past_allowed (goal.at.returns-then-k-lt1 c).Else-not-terms_allowed) (farkas-reached _ k.k (sym c.combine.ensures ∙ k.is) ∙ below))
+    let below = lt→not_le k.k (pos 1) (rw (constant_is (goal.at.returns-then-k-lt1 c).In-Constant) at c.if-k-lt1.true) in
+    farkas_found p.0 p.1 (fails (past_allowed (goal.at.returns-then-k-lt1 c).Else-not-terms_allowed) (farkas_reached _ k.k (sym c.combine.ensures ∙ k.is) ∙ below))
 
 pub returns-else-k-lt1 : goal.returns-else-k-lt1
 returns-else-k-lt1 c =
     let k = c.in-Constant in
     let p = c.requires in
-    let least = not-lt→le k.k (pos 1) (rw (constant-is (goal.at.returns-else-k-lt1 c).In-Constant) at c.if-k-lt1.false) in
-    farkas_found p.0 p.1 (passes (past (past_allowed (goal.at.returns-else-k-lt1 c).Else-not-terms_allowed) (farkas-reached _ k.k (sym c.combine.ensures ∙ k.is) ∙ least)))
+    let least = not_lt→le k.k (pos 1) (rw (constant_is (goal.at.returns-else-k-lt1 c).In-Constant) at c.if-k-lt1.false) in
+    farkas_found p.0 p.1 (passes (past (past_allowed (goal.at.returns-else-k-lt1 c).Else-not-terms_allowed) (farkas_reached _ k.k (sym c.combine.ensures ∙ k.is) ∙ least)))

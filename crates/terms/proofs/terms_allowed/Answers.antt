@@ -1,4 +1,4 @@
--- `terms::terms_allowed` meets its contract. Invariant: the test of the terms from i on is the test of all.
+-- `terms::terms_allowed` meets its contract.
 use mathlib.Core.Path.{◌≡◌, refl, sym, ap, ap₂, ◌∙◌}
 use mathlib.Core.Bool.{◌&&◌}
 use Prim.Native.Nat.{◌+◌}
@@ -12,7 +12,7 @@ use mir.Val.{to_z, of_z}
 use mir.ValLaws.{to_z-of_z}
 use Rattle.ints.specs.Tests.{all}
 use Rattle.rows.specs.Summable.{terms}
-use Rattle.rows.proofs.TermLaws.{term, next-term}
+use Rattle.rows.proofs.TermLaws.{term, next_term}
 use Rattle.terms.proofs.terms_allowed.Invariants.{test}
 use Rattle.terms.proofs.terms_allowed.Goals as goal
 use Rattle.terms.proofs.terms_allowed.Goals.{After-term_allowed, Start}
@@ -37,7 +37,7 @@ rest c =
     let m = get_or a.multipliers.now c.loop-i.i (pos 0) in
     let e = c.term_allowed.ensures ∙ ap (λ (x : ℤ). p (term f x)) (to_z-of_z w32 m (sfits_of c.m-1.given)) in
     let paired = c.requires.1.paired in
-    rw e (sym (ap (all p) (next-term a.picks.now a.multipliers.now c.loop-i.i paired (omega arith))) ∙ c.loop-i.invariant.1)
+    rw e (sym (ap (all p) (next_term a.picks.now a.multipliers.now c.loop-i.i paired (omega arith))) ∙ c.loop-i.invariant.1)
 
 -- the test by the range's bits is the test by the range
 ranged : (s : Start) →

@@ -1,4 +1,4 @@
--- `terms::terms_allowed` meets its contract. Invariant: the test of the terms from i on is the test of all.
+-- The invariant of `terms::terms_allowed`: the test of the terms from i on is the test of all.
 use mathlib.Core.Path.{◌≡◌}
 use mathlib.Core.Bool.{Bool}
 use mathlib.Core.List.{List}

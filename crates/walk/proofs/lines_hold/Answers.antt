@@ -1,5 +1,4 @@
--- `walk::lines_hold` meets its contract. The outer loop's invariant: every line passed is right, over the n forms with 2 n = `bound`,
--- and `from` is where line k begins. The inner one's: the test of the literals from i on, each at least `least`, is the test of the line's.
+-- `walk::lines_hold` meets its contract.
 use mathlib.Core.Path.{◌≡◌, refl, sym, ◌∙◌}
 use mathlib.Core.Bool.{false}
 use Prim.Native.Nat.{ℕ, suc, ◌*◌, ◌<◌}
@@ -11,7 +10,7 @@ use Rattle.session.specs.Cells.{origin_at}
 use Rattle.walk.specs.Walk.{Exactly, LineGood, LinesGood}
 use Rattle.walk.proofs.Says.{say_yes, say_no}
 use Rattle.walk.proofs.LineWalk.{literals_hold, literal_low, literal_high, literal_good, literals_over}
-use Rattle.walk.proofs.LineWalk.{origin→le, good-line, bad_literals, end-next, rising, one_more}
+use Rattle.walk.proofs.LineWalk.{origin→le, good_line, bad_literals, end_next, rising, one_more}
 use Rattle.walk.proofs.lines_hold.Goals as goal
 use Rattle.walk.proofs.lines_hold.Goals.{At-lines, At-loop-i}
 
@@ -44,10 +43,10 @@ lines-preserved c =
       omega arith,
       omega arith,
       c.loop-i.invariant.1,
-      end-next a.lines.now c.lines.k,
+      end_next a.lines.now c.lines.k,
       λ n same.
           let g =
-          good-line a.pool.now a.lines.now n c.lines.k c.lines.from c.lines.invariant.4
+          good_line a.pool.now a.lines.now n c.lines.k c.lines.from c.lines.invariant.4
           (omega arith) (omega arith) (omega arith) (omega arith) (rw (← same) e)
           in
           one_more (LineGood a.pool.now a.lines.now n) a.low.lines c.lines.k (c.lines.invariant.5 n same) g,

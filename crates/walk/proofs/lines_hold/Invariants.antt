@@ -1,5 +1,5 @@
--- `walk::lines_hold` meets its contract. The outer loop's invariant: every line passed is right, over the n forms with 2 n = `bound`,
--- and `from` is where line k begins. The inner one's: the test of the literals from i on, each at least `least`, is the test of the line's.
+-- `walk::lines_hold`. The outer loop's invariant: every line passed is right, over the n forms with 2 n = `bound`, and `from` is where line k begins.
+-- The inner one's: the test of the literals from i on, each at least `least`, is the test of the line's.
 use mathlib.Core.Path.{◌≡◌}
 use mathlib.Core.Bool.{true}
 use Prim.Native.Nat.{ℕ, ◌*◌, ◌-◌, ◌≤◌, ◌<◌}

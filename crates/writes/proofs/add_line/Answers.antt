@@ -5,7 +5,7 @@ use native.Mathlib.Omega.{arith}
 use lib.ListN.{length, length-set}
 use Rattle.ledger.specs.Literals.{joined}
 use Rattle.session.specs.Limits.{line_cells}
-use Rattle.writes.proofs.PartLaws.{part_written, two-written}
+use Rattle.writes.proofs.PartLaws.{part_written, two_written}
 use Rattle.writes.proofs.add_line.Goals as goal
 
 pub bounds-lines-k-2 : goal.bounds-lines-k-2
@@ -19,5 +19,5 @@ returns c =
     record {
       ends = ap (◌+◌ a.literals) n;
       pool = part_written a.pool.now _ xs a.literals (omega arith) c.join_into-count.ensures.written;
-      lines = rw n (two-written a.lines.now (line_cells * a.behind) (a.literals + length xs) a.origin (omega arith));
+      lines = rw n (two_written a.lines.now (line_cells * a.behind) (a.literals + length xs) a.origin (omega arith));
     }

@@ -1,4 +1,4 @@
--- `writes::put_cells` meets its contract. Invariant: the first i cells are written, and the others are as they were.
+-- `writes::put_cells` meets its contract.
 use native.Mathlib.Nat.{zero-add}
 use native.Mathlib.Numerals.{add-one}
 use native.Mathlib.Omega.{arith}

@@ -1,4 +1,4 @@
--- `writes::put_cells` meets its contract. Invariant: the first i cells are written, and the others are as they were.
+-- The invariant of `writes::put_cells`: the first i cells are written, and the others are as they were.
 use Prim.Native.Nat.{◌-◌, ◌≤◌}
 use lib.ListN.{length, drop}
 use Rattle.literals.proofs.Filler.{Written}

@@ -1,3 +1,4 @@
+-- `cases::differ::numbers_differ` ends: its index goes up to the cells' end.
 use Rattle.std.proofs.Common.{length, ◌-◌}
 use Rattle.cases.proofs.differ.numbers_differ.Given as goal
 

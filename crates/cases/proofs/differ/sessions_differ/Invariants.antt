@@ -1,3 +1,4 @@
+-- `cases::differ::sessions_differ` ends: its index goes up to the last mark.
 use Rattle.std.proofs.Common.{◌-◌}
 use Rattle.cases.proofs.differ.sessions_differ.Given as goal
 

@@ -1,3 +1,4 @@
+-- `cases::run::repeat` ends: it counts the times up.
 use Rattle.std.proofs.Common.{◌-◌}
 use Rattle.cases.proofs.run.repeat.Given as goal
 

@@ -1,3 +1,4 @@
+-- `cases::run::run` ends: its index goes up to the text's end.
 use Rattle.std.proofs.Common.{length, ◌-◌}
 use Rattle.cases.proofs.run.run.Given as goal
 

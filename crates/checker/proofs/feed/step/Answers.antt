@@ -11,7 +11,7 @@ use Rattle.checker.proofs.feed.step.Goals as goal
 use Rattle.checker.proofs.feed.step.Goals.{After-counts}
 
 pub bounds-s-at : goal.bounds-s-at
-bounds-s-at c = omega (arith, c.last_place-at.ensures, (held_clauses c.requires).few-levels)
+bounds-s-at c = omega (arith, c.last_place-at.ensures, (held_clauses c.requires).few_levels)
 
 -- what is lent for the change is the top of the session that is given
 seen : (c : After-counts) →

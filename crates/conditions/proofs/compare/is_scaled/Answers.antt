@@ -1,4 +1,4 @@
--- `conditions::compare::is_scaled` meets its contract. The loop's invariant: comparing the cells from i on is comparing all of them.
+-- `conditions::compare::is_scaled` meets its contract.
 use mathlib.Core.Path.{◌≡◌, refl, sym, ◌∙◌}
 use mathlib.Core.Bool.{Bool, ◌&&◌}
 use Prim.Native.Nat.{◌+◌}

@@ -1,4 +1,4 @@
--- `conditions::compare::is_scaled` meets its contract. The loop's invariant: comparing the cells from i on is comparing all of them.
+-- The invariant of `conditions::compare::is_scaled`: comparing the cells from i on is comparing all of them.
 use mathlib.Core.Path.{◌≡◌}
 use Prim.Native.Nat.{◌-◌, ◌≤◌}
 use lib.ListN.{length}

@@ -1,4 +1,4 @@
--- `conditions::picked::are_neighbours` meets its contract. The loop's invariant: the test of the rows from place i on is the test of all.
+-- `conditions::picked::are_neighbours` meets its contract.
 use mathlib.Core.Path.{◌≡◌, sym, ap, ◌∙◌}
 use mathlib.Core.Bool.{Bool, ◌&&◌}
 use mathlib.Core.List.{map}
@@ -15,7 +15,7 @@ use Rattle.rows.specs.Summable.{row_at}
 use Rattle.rows.specs.Conditions.{same_row, neighbours_from, neighbours}
 use Rattle.rows.specs.Row.{shifted}
 use Rattle.rows.proofs.RowLaws.{scaled_one}
-use Rattle.rows.proofs.Remainders.{neighbours-all, neighbours-step, neighbours_over}
+use Rattle.rows.proofs.Remainders.{neighbours_all, neighbours_step, neighbours_over}
 use borrow.Author.Rules.{sfits_of}
 use Rattle.conditions.proofs.picked.are_neighbours.Goals as goal
 use Rattle.conditions.proofs.picked.are_neighbours.Goals.{After-matches}
@@ -23,7 +23,7 @@ use Rattle.conditions.proofs.picked.are_neighbours.Goals.{After-matches}
 pub loop-i-init : goal.loop-i-init
 loop-i-init c =
     let a = c.args in
-    (omega arith, c.requires.1, neighbours-all (row_at unknowns a.table.now) a.picks.now c.requires.1)
+    (omega arith, c.requires.1, neighbours_all (row_at unknowns a.table.now) a.picks.now c.requires.1)
 
 pub overflow_cast-i : goal.overflow_cast-i
 overflow_cast-i c = sfits_of (omega arith)
@@ -45,7 +45,7 @@ tested c h =
     let place = to_z-of_z w32 (pos c.loop-i.i) fit in
     let same =
     rw scaled_one at c.matches.ensures ∙ ap (λ (n : ℤ). same_row (row (get_or a.picks.now c.loop-i.i 0)) (shifted n first)) place in
-    sym (neighbours-step row a.picks.now c.loop-i.i first (omega arith) (sym same ∙ h)) ∙ c.loop-i.invariant.2
+    sym (neighbours_step row a.picks.now c.loop-i.i first (omega arith) (sym same ∙ h)) ∙ c.loop-i.invariant.2
 
 pub returns-then-not-matches : goal.returns-then-not-matches
 returns-then-not-matches c = tested (goal.at.returns-then-not-matches c).After-matches (not-true _ c.if-not-matches.true-raw)

@@ -1,4 +1,4 @@
--- `conditions::picked::are_neighbours` meets its contract. The loop's invariant: the test of the rows from place i on is the test of all.
+-- The invariant of `conditions::picked::are_neighbours`: the test of the rows from place i on is the test of all.
 use mathlib.Core.Path.{◌≡◌}
 use mathlib.Core.List.{map}
 use Prim.Native.Nat.{◌-◌, ◌≤◌}

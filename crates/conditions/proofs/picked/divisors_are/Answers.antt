@@ -1,4 +1,4 @@
--- `conditions::picked::divisors_are` meets its contract. Invariant: the test of the forms from i on is the test of all.
+-- `conditions::picked::divisors_are` meets its contract.
 use mathlib.Core.Path.{◌≡◌, refl, sym, ap, ap₂, ◌∙◌}
 use native.Mathlib.Omega.{arith}
 use borrow.Author.Rules.{rules, sfits_of}
@@ -8,8 +8,8 @@ use mir.Syntax.{w32}
 use mir.Val.{to_z, of_z}
 use mir.ValLaws.{to_z-of_z}
 use Rattle.ints.specs.Tests.{eq_z, all}
-use Rattle.ints.proofs.Bits.{bits-same, bits_differ}
-use Rattle.ints.proofs.Lists.{all-fails, all-next, all_over}
+use Rattle.ints.proofs.Bits.{bits_same, bits_differ}
+use Rattle.ints.proofs.Lists.{all_fails, all_next, all_over}
 use Rattle.conditions.proofs.picked.divisors_are.Invariants.{test}
 use Rattle.conditions.proofs.picked.divisors_are.Goals as goal
 use Rattle.conditions.proofs.picked.divisors_are.Goals.{After-divisor-d, Start}
@@ -41,16 +41,16 @@ pub returns-then-d-divisor : goal.returns-then-d-divisor
 returns-then-d-divisor c =
     let r = c.divisor-d in
     let other = bits_differ w32 r.result c.args.divisor (sfits_of r.type_inv) c.ranges.divisor c.if-d-divisor.true in
-    sym (all-fails (test c.args.table.now (bits (goal.at.returns-then-d-divisor c).Start)) c.args.picks.now c.loop-i.i 0 (omega arith) (tested (goal.at.returns-then-d-divisor c).After-divisor-d ∙ other))
+    sym (all_fails (test c.args.table.now (bits (goal.at.returns-then-d-divisor c).Start)) c.args.picks.now c.loop-i.i 0 (omega arith) (tested (goal.at.returns-then-d-divisor c).After-divisor-d ∙ other))
     ∙ c.loop-i.invariant.1
     ∙ whole (goal.at.returns-then-d-divisor c).Start
 
 pub loop-i-preserved : goal.loop-i-preserved
 loop-i-preserved c =
     let r = c.divisor-d in
-    let same = bits-same w32 r.result c.args.divisor (sfits_of r.type_inv) c.ranges.divisor c.if-d-divisor.false in (
+    let same = bits_same w32 r.result c.args.divisor (sfits_of r.type_inv) c.ranges.divisor c.if-d-divisor.false in (
       omega arith,
-      sym (all-next (test c.args.table.now (bits (goal.at.loop-i-preserved c).Start)) c.args.picks.now c.loop-i.i 0 (omega arith) (tested (goal.at.loop-i-preserved c).After-divisor-d ∙ same))
+      sym (all_next (test c.args.table.now (bits (goal.at.loop-i-preserved c).Start)) c.args.picks.now c.loop-i.i 0 (omega arith) (tested (goal.at.loop-i-preserved c).After-divisor-d ∙ same))
           ∙ c.loop-i.invariant.1,
     )
 

@@ -1,4 +1,4 @@
--- `conditions::picked::divisors_are` meets its contract. Invariant: the test of the forms from i on is the test of all.
+-- The invariant of `conditions::picked::divisors_are`: the test of the forms from i on is the test of all.
 use mathlib.Core.Path.{◌≡◌}
 use mathlib.Core.Bool.{Bool}
 use mathlib.Core.List.{List}

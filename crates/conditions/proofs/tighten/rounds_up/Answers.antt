@@ -7,9 +7,9 @@ use lib.Signed.{lt_z}
 use mir.Syntax.{w32, w64}
 use mir.Val.{to_z, of_z, SFits}
 use mir.ValLaws.{to_z-of_z}
-use Rattle.ints.proofs.Order.{lt→not-le, not-lt→le}
-use Rattle.ints.proofs.Polynomial.{at, ◌⊝◌, ◌⊗◌, eq-by}
-use Rattle.ints.proofs.Size.{nat_abs-add, nat_abs_mul, sizes, size_32, fits-by-size}
+use Rattle.ints.proofs.Order.{lt→not_le, not_lt→le}
+use Rattle.ints.proofs.Polynomial.{at, ◌⊝◌, ◌⊗◌, eq_by}
+use Rattle.ints.proofs.Size.{nat_abs_add, nat_abs_mul, sizes, size_32, fits_by_size}
 use Rattle.ints.proofs.Bits.{read, fit, widened, widened_fits}
 use Rattle.conditions.proofs.tighten.rounds_up.Goals as goal
 use Rattle.conditions.proofs.tighten.rounds_up.Goals.{After-plus_times-p}
@@ -29,12 +29,12 @@ steps t =
     let fa : SFits w32 a = t.ranges.a in
     let fc : SFits w32 c = t.ranges.c in
     let fb : SFits w32 b = t.ranges.b in
-    let fits : SFits w64 (c *ℤ b) = fits-by-size w64 _ (omega (arith, nat_abs_mul c b, sizes (size_32 fc) (size_32 fb))) in
+    let fits : SFits w64 (c *ℤ b) = fits_by_size w64 _ (omega (arith, nat_abs_mul c b, sizes (size_32 fc) (size_32 fb))) in
     let product : to_z w64 (of_z w64 t.plus_times-p.result) ≡ c *ℤ b = read w64 (t.plus_times-p.ensures ∙ simp to_z-of_z (+ℤ_idl (c *ℤ b))) fits in
     record {
       product = product;
-      low = ap₂ ◌-ℤ◌ product (widened fc) ∙ eq-by (at c ⊗ at b ⊝ at c) (at c ⊗ (at b ⊝ at (pos 1))) (omega arith);
-      low_fits = fits-by-size w64 _ (omega (arith, nat_abs_mul c (b -ℤ pos 1), sizes (size_32 fc) (nat_abs-add b (neg_ℤ (pos 1))), size_32 fb));
+      low = ap₂ ◌-ℤ◌ product (widened fc) ∙ eq_by (at c ⊗ at b ⊝ at c) (at c ⊗ (at b ⊝ at (pos 1))) (omega arith);
+      low_fits = fits_by_size w64 _ (omega (arith, nat_abs_mul c (b -ℤ pos 1), sizes (size_32 fc) (nat_abs_add b (neg_ℤ (pos 1))), size_32 fb));
       wide_a = widened fa;
     }
 
@@ -51,7 +51,7 @@ pub returns-then-p-x : goal.returns-then-p-x
 returns-then-p-x c =
     let a = c.args in
     let k = steps (goal.at.returns-then-p-x c).After-plus_times-p in
-    rw (lt→not-le (a.c *ℤ a.b) a.a (rw (k.product, k.wide_a) at c.if-p-x.true)) (sym (and-false (lt_z (a.c *ℤ (a.b -ℤ pos 1)) a.a)))
+    rw (lt→not_le (a.c *ℤ a.b) a.a (rw (k.product, k.wide_a) at c.if-p-x.true)) (sym (and-false (lt_z (a.c *ℤ (a.b -ℤ pos 1)) a.a)))
 
 pub overflow_cast-result : goal.overflow_cast-result
 overflow_cast-result c = widened_fits c.ranges.c
@@ -63,5 +63,5 @@ pub returns : goal.returns
 returns c =
     let a = c.args in
     let k = steps (goal.at.returns c).After-plus_times-p in
-    rw (not-lt→le (a.c *ℤ a.b) a.a (rw (k.product, k.wide_a) at c.if-p-x.false), read w64 k.low k.low_fits, k.wide_a)
+    rw (not_lt→le (a.c *ℤ a.b) a.a (rw (k.product, k.wide_a) at c.if-p-x.false), read w64 k.low k.low_fits, k.wide_a)
     (sym (and-true (lt_z (a.c *ℤ (a.b -ℤ pos 1)) a.a)))

@@ -1,4 +1,4 @@
--- `contents::content::all_in_range` meets its contract. The loop's invariant: the test of the cells from i on is the test of all.
+-- The invariant of `contents::content::all_in_range`: the test of the cells from i on is the test of all.
 use mathlib.Core.Path.{◌≡◌}
 use Prim.Native.Nat.{◌-◌, ◌≤◌}
 use lib.ListN.{length, drop}

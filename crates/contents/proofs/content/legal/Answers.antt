@@ -17,33 +17,33 @@ use Rattle.rows.specs.Form.{form_of, in_range, legal_divisor, legal}
 use Rattle.contents.proofs.content.legal.Goals as goal
 use Rattle.contents.proofs.content.legal.Goals.{After-is_between, After-legal_divisor, Else-not-is_between}
 
-abbrev kind-legal : List ℤ → Bool
-kind-legal cells = between (pos 1) (pos 3) (get_or cells 0 (pos 0))
+abbrev kind_legal : List ℤ → Bool
+kind_legal cells = between (pos 1) (pos 3) (get_or cells 0 (pos 0))
 
-abbrev divisor-legal : List ℤ → Bool
-divisor-legal cells = legal_divisor (get_or cells 0 (pos 0)) (get_or cells 1 (pos 0))
+abbrev divisor_legal : List ℤ → Bool
+divisor_legal cells = legal_divisor (get_or cells 0 (pos 0)) (get_or cells 1 (pos 0))
 
-abbrev row-legal : List ℤ → Bool
-row-legal cells = all in_range (drop 2 cells)
+abbrev row_legal : List ℤ → Bool
+row_legal cells = all in_range (drop 2 cells)
 
 module _ (n : ℕ) (cells : List ℤ) where
   other_length : (length cells ≡ n + 3 → ⊥) → legal n (form_of cells) ≡ false
   unfolding legal
   other_length h =
       rw (ne_eqb (length (drop 2 cells)) (n + 1) (λ e. h (omega (arith, length-drop 2 cells))))
-      (ap (λ (b : Bool). b && row-legal cells) (and-false (kind-legal cells && divisor-legal cells)))
+      (ap (λ (b : Bool). b && row_legal cells) (and-false (kind_legal cells && divisor_legal cells)))
 
-  its_length : length cells ≡ n + 3 → legal n (form_of cells) ≡ kind-legal cells && (divisor-legal cells && row-legal cells)
+  its_length : length cells ≡ n + 3 → legal n (form_of cells) ≡ kind_legal cells && (divisor_legal cells && row_legal cells)
   unfolding legal
   its_length h =
       rw (eq-eqb (length (drop 2 cells)) (n + 1) (omega (arith, length-drop 2 cells)))
-      (ap (λ (b : Bool). b && row-legal cells) (and-true (kind-legal cells && divisor-legal cells))
-      ∙ and_assoc (kind-legal cells) (divisor-legal cells) (row-legal cells))
+      (ap (λ (b : Bool). b && row_legal cells) (and-true (kind_legal cells && divisor_legal cells))
+      ∙ and_assoc (kind_legal cells) (divisor_legal cells) (row_legal cells))
 
 pub returns-then-cells-ne-FORM_CELLS : goal.returns-then-cells-ne-FORM_CELLS
 returns-then-cells-ne-FORM_CELLS c = sym (other_length unknowns c.args.cells.now c.if-cells-ne-FORM_CELLS.true)
 
-kind_tested : (c : After-is_between) → kind-legal c.args.cells.now ≡ c.is_between.result
+kind_tested : (c : After-is_between) → kind_legal c.args.cells.now ≡ c.is_between.result
 kind_tested c =
     let xs = c.args.cells.now in
     sym (c.is_between.ensures ∙ ap (between (pos 1) (pos 3)) (to_z-of_z w32 (get_or xs 0 (pos 0)) (sfits_of c.kind-1.given)))
@@ -53,12 +53,12 @@ returns-then-not-is_between c = sym (its_length unknowns c.args.cells.now c.if-c
 
 past_kind : (c : Else-not-is_between) →
     let xs = c.args.cells.now in
-    legal unknowns (form_of xs) ≡ divisor-legal xs && row-legal xs
+    legal unknowns (form_of xs) ≡ divisor_legal xs && row_legal xs
 past_kind c =
     its_length unknowns c.args.cells.now c.if-cells-ne-FORM_CELLS.false ∙ simp (kind_tested (goal.at.Else-not-is_between c).After-is_between ∙ not-false _ c.if-not-is_between.false-raw)
 
 divisor_tested : (c : After-legal_divisor) →
-    divisor-legal c.args.cells.now ≡ c.legal_divisor.result
+    divisor_legal c.args.cells.now ≡ c.legal_divisor.result
 divisor_tested c =
     let xs = c.args.cells.now in
     sym (c.legal_divisor.ensures

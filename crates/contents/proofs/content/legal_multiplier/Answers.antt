@@ -6,7 +6,7 @@ use lib.IntN.{ℤ, pos, neg_ℤ}
 use mir.Syntax.{w32}
 use mir.ValLaws.{to_z-of_z}
 use Rattle.ints.specs.Tests.{eq_z, between}
-use Rattle.ints.proofs.Bits.{bits-same, bits_differ}
+use Rattle.ints.proofs.Bits.{bits_same, bits_differ}
 use Rattle.rows.specs.Limits.{largest_multiplier}
 use Rattle.rows.specs.Form.{at_most, legal_multiplier}
 use Rattle.contents.proofs.content.legal_multiplier.Goals as goal
@@ -19,7 +19,7 @@ small m = between (neg_ℤ (pos largest_multiplier)) (pos largest_multiplier) m
 pub returns-then-kind-eq-AT_MOST : goal.returns-then-kind-eq-AT_MOST
 unfolding legal_multiplier
 returns-then-kind-eq-AT_MOST c =
-    let k : eq_z c.args.kind at_most ≡ true = bits-same w32 c.args.kind at_most c.ranges.kind (search rules) c.if-kind-eq-AT_MOST.true in
+    let k : eq_z c.args.kind at_most ≡ true = bits_same w32 c.args.kind at_most c.ranges.kind (search rules) c.if-kind-eq-AT_MOST.true in
     rw k (c.is_between.ensures ∙ ap (between (pos 1) (pos largest_multiplier)) (to_z-of_z w32 c.args.m c.ranges.m))
 
 other_kind : (c : Else-kind-eq-AT_MOST) → eq_z c.args.kind at_most ≡ false
@@ -28,7 +28,7 @@ other_kind c = bits_differ w32 c.args.kind at_most c.ranges.kind (search rules) 
 pub returns-then-m-eq0 : goal.returns-then-m-eq0
 unfolding legal_multiplier
 returns-then-m-eq0 c =
-    let z : eq_z c.args.m (pos 0) ≡ true = bits-same w32 c.args.m (pos 0) c.ranges.m (search rules) c.if-m-eq0.true in
+    let z : eq_z c.args.m (pos 0) ≡ true = bits_same w32 c.args.m (pos 0) c.ranges.m (search rules) c.if-m-eq0.true in
     rw (other_kind (goal.at.returns-then-m-eq0 c).Else-kind-eq-AT_MOST, z) (sym (and-false (small c.args.m)))
 
 pub returns : goal.returns

@@ -7,7 +7,7 @@ use mir.Val.{to_z, of_z, SFits}
 use mir.ValLaws.{to_z-of_z}
 use Rattle.ints.specs.Tests.{eq_z}
 use Rattle.ints.proofs.Size.{sizes, size_32, wider}
-use Rattle.ints.proofs.Bits.{bits-eq_z, widened_fits}
+use Rattle.ints.proofs.Bits.{bits_eq_z, widened_fits}
 use Rattle.contents.proofs.exact.is_affine.Goals as goal
 
 pub overflow_cast-n : goal.overflow_cast-n
@@ -32,5 +32,5 @@ returns c =
     let gn : SFits w64 a.n = wider fn in
     let fm : SFits w32 a.m = c.ranges.m in
     let fy : SFits w32 a.y = c.ranges.y in
-    bits-eq_z w64 (to_z w32 (of_z w32 a.x)) c.plus_times-p.result (overflow_cast-result c) (sfits_of c.plus_times-p.type_inv)
+    bits_eq_z w64 (to_z w32 (of_z w32 a.x)) c.plus_times-p.result (overflow_cast-result c) (sfits_of c.plus_times-p.type_inv)
     ∙ ap₂ eq_z (to_z-of_z w32 a.x fx) (c.plus_times-p.ensures ∙ simp to_z-of_z)

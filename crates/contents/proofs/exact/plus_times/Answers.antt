@@ -5,7 +5,7 @@ use lib.IntN.{ℤ, ◌+ℤ◌, ◌*ℤ◌}
 use mir.Syntax.{w32, w64}
 use mir.Val.{to_z, of_z, SFits}
 use mir.ValLaws.{to_z-of_z}
-use Rattle.ints.proofs.Size.{nat_abs-add, nat_abs_mul, fits-by-size}
+use Rattle.ints.proofs.Size.{nat_abs_add, nat_abs_mul, fits_by_size}
 use Rattle.ints.proofs.Bits.{read, fit, widened, widened_fits}
 use Rattle.contents.proofs.exact.plus_times.Goals as goal
 use Rattle.contents.proofs.exact.plus_times.Goals.{Start}
@@ -24,12 +24,12 @@ steps c =
     let k = c.args.k in
     let wide_m : to_z w64 (of_z w64 (to_z w32 (of_z w32 m))) ≡ m = widened c.ranges.m in
     let wide_k : to_z w64 (of_z w64 (to_z w32 (of_z w32 k))) ≡ k = widened c.ranges.k in
-    let pf : SFits w64 (m *ℤ k) = fits-by-size w64 _ (omega (arith, nat_abs_mul m k)) in
+    let pf : SFits w64 (m *ℤ k) = fits_by_size w64 _ (omega (arith, nat_abs_mul m k)) in
     record {
       product = ap₂ ◌*ℤ◌ wide_m wide_k;
       product_fits = pf;
       sum = ap₂ ◌+ℤ◌ (to_z-of_z w64 s c.ranges.sum) (read w64 (ap₂ ◌*ℤ◌ wide_m wide_k) pf);
-      sum_fits = fits-by-size w64 _ (omega (arith, nat_abs-add s (m *ℤ k), nat_abs_mul m k));
+      sum_fits = fits_by_size w64 _ (omega (arith, nat_abs_add s (m *ℤ k), nat_abs_mul m k));
     }
 
 pub overflow_cast-result : goal.overflow_cast-result

@@ -11,7 +11,7 @@ use mir.Val.{to_z, of_z, SFits, Fits}
 use mir.ValLaws.{to_z-of_z}
 use Rattle.ints.proofs.Bools.{true→T, false→T}
 use Rattle.ints.proofs.Parts.{ints, up_neg, down_neg}
-use Rattle.ints.proofs.Size.{nat_abs_neg, fits-by-size}
+use Rattle.ints.proofs.Size.{nat_abs_neg, fits_by_size}
 use Rattle.ints.proofs.Bits.{read, fit}
 use Rattle.contents.proofs.exact.size.Goals as goal
 
@@ -29,13 +29,13 @@ module _ (x : ℤ) (f : SFits w64 x) (h : nat_abs x < 2 ^ 63) where
   minus : pos 0 -ℤ to_z w64 (of_z w64 x) ≡ neg_ℤ x
   minus = ap (λ (z : ℤ). pos 0 -ℤ z) (to_z-of_z w64 x f) ∙ +ℤ_idl (neg_ℤ x)
 
-  minus-fits : SFits w64 (neg_ℤ x)
-  minus-fits = fits-by-size w64 (neg_ℤ x) (omega (arith, nat_abs_neg x))
+  minus_fits : SFits w64 (neg_ℤ x)
+  minus_fits = fits_by_size w64 (neg_ℤ x) (omega (arith, nat_abs_neg x))
 
   below : lt_z (to_z w64 (of_z w64 x)) (pos 0) ≡ true → Cast (to_z w64 (of_z w64 (pos 0 -ℤ to_z w64 (of_z w64 x)))) (nat_abs x)
   below t =
       let l : x <ℤ pos 0 = lt_z_yes (true→T (rw (to_z-of_z w64 x f) at t)) in
-      cast_of (read w64 minus minus-fits) (omega (ints, up_neg x, down_neg x)) (nat_abs_neg x) h
+      cast_of (read w64 minus minus_fits) (omega (ints, up_neg x, down_neg x)) (nat_abs_neg x) h
 
   above : lt_z (to_z w64 (of_z w64 x)) (pos 0) ≡ false → Cast (to_z w64 (of_z w64 x)) (nat_abs x)
   above t =
@@ -43,7 +43,7 @@ module _ (x : ℤ) (f : SFits w64 x) (h : nat_abs x < 2 ^ 63) where
       cast_of (to_z-of_z w64 x f) l refl h
 
 pub overflow_sub-result : goal.overflow_sub-result
-overflow_sub-result c = fit (minus c.args.x c.ranges.x c.requires) (minus-fits c.args.x c.ranges.x c.requires)
+overflow_sub-result c = fit (minus c.args.x c.ranges.x c.requires) (minus_fits c.args.x c.ranges.x c.requires)
 
 pub overflow_cast-result : goal.overflow_cast-result
 overflow_cast-result c = let k = below c.args.x c.ranges.x c.requires c.if-x-lt0.true in (k.sign, k.fits)

@@ -1,3 +1,4 @@
+-- `drive::commands::marks_of` ends: its index goes up to the last mark.
 use Rattle.std.proofs.Common.{◌-◌}
 use Rattle.drive.proofs.commands.marks_of.Given as goal
 

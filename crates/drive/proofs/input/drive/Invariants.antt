@@ -1,3 +1,4 @@
+-- `drive::input::drive` ends: its turns are counted down.
 use Rattle.std.proofs.Common.{length, ◌≡◌, ◌≤◌}
 use Rattle.drive.proofs.input.drive.Given as goal
 

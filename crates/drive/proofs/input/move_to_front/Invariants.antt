@@ -1,3 +1,4 @@
+-- `drive::input::move_to_front` reads behind the place that it writes to, and ends there where the bytes end.
 use Rattle.std.proofs.Common.{◌≤◌, ◌-◌}
 use Rattle.drive.proofs.input.move_to_front.Given as goal
 

@@ -1,3 +1,4 @@
+-- `drive::say::print_marks` ends: its index goes up to the last mark.
 use Rattle.std.proofs.Common.{◌-◌}
 use Rattle.drive.proofs.say.print_marks.Given as goal
 

@@ -1,3 +1,4 @@
+-- `drive::steps::steps` takes no more bytes than the text has, and ends: each command takes some.
 use Rattle.std.proofs.Common.{length, ◌≤◌, ◌-◌}
 use Rattle.drive.proofs.steps.steps.Given as goal
 

@@ -1,4 +1,4 @@
--- `literals::gather::gather` meets its contract. Invariant: what is filled in, then what is left of the line less the literal, is the whole.
+-- `literals::gather::gather` meets its contract.
 use mathlib.Core.Path.{refl}
 use mathlib.Core.Bool.{Bool, not}
 use native.Mathlib.Omega.{arith}

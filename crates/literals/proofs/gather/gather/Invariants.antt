@@ -1,4 +1,4 @@
--- `literals::gather::gather` meets its contract. Invariant: what is filled in, then what is left of the line less the literal, is the whole.
+-- The invariant of `literals::gather::gather`: what is filled in, then what is left of the line less the literal, is the whole.
 use mathlib.Core.Path.{◌≡◌}
 use mathlib.Core.List.{◌++◌}
 use Prim.Native.Nat.{◌-◌, ◌≤◌}

@@ -1,4 +1,4 @@
--- `literals::tests::all_below` meets its contract. The loop's invariant: the test of the forms from i on is the test of all.
+-- The invariant of `literals::tests::all_below`: the test of the forms from i on is the test of all.
 use mathlib.Core.Path.{◌≡◌}
 use mathlib.Core.Bool.{Bool}
 use Prim.Native.Nat.{ℕ, ◌-◌, ◌≤◌}

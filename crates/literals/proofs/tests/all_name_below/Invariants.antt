@@ -1,4 +1,4 @@
--- `literals::tests::all_name_below` meets its contract. The loop's invariant: the test of the literals from i on is the test of all.
+-- The invariant of `literals::tests::all_name_below`: the test of the literals from i on is the test of all.
 use mathlib.Core.Path.{◌≡◌}
 use Prim.Native.Nat.{◌-◌, ◌≤◌}
 use lib.ListN.{length, drop}

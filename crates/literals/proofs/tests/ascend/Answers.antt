@@ -1,4 +1,4 @@
--- `literals::tests::ascend` meets its contract. The loop's invariant: whether the numbers from i - 1 on ascend is whether all do.
+-- `literals::tests::ascend` meets its contract.
 use mathlib.Core.Path.{◌≡◌, refl, sym, ◌∙◌}
 use mathlib.Core.Bool.{Bool, true, ◌&&◌}
 use mathlib.Core.List.{List, [], ◌∷◌}

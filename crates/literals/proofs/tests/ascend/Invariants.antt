@@ -1,4 +1,4 @@
--- `literals::tests::ascend` meets its contract. The loop's invariant: whether the numbers from i - 1 on ascend is whether all do.
+-- The invariant of `literals::tests::ascend`: whether the numbers from i - 1 on ascend is whether all do.
 use mathlib.Core.Path.{◌≡◌}
 use Prim.Native.Nat.{◌-◌, ◌≤◌}
 use lib.ListN.{length, drop}

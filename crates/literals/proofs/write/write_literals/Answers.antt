@@ -1,4 +1,4 @@
--- `literals::write::write_literals` meets its contract. The loop's invariant: the literals of the forms passed are written.
+-- `literals::write::write_literals` meets its contract.
 use mathlib.Core.Path.{◌≡◌, refl}
 use mathlib.Core.List.{List, map, map-append}
 use Prim.Native.Nat.{ℕ, ◌+◌, ◌*◌, ◌<◌}

@@ -1,4 +1,4 @@
--- `literals::write::write_literals` meets its contract. The loop's invariant: the literals of the forms passed are written.
+-- The invariant of `literals::write::write_literals`: the literals of the forms passed are written.
 use mathlib.Core.Path.{◌≡◌}
 use mathlib.Core.List.{map}
 use Prim.Native.Nat.{◌+◌, ◌*◌, ◌-◌, ◌≤◌}

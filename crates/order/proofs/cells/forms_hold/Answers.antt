@@ -1,4 +1,4 @@
--- `order::cells::forms_hold` meets its contract. The loop's invariant: every form passed has a legal content.
+-- `order::cells::forms_hold` meets its contract.
 use mathlib.Core.Path.{◌≡◌, sym, ap, ◌∙◌, subst}
 use Prim.Native.Nat.{ℕ, ◌+◌, ◌*◌, ◌-◌}
 use native.Mathlib.Omega.{arith}

@@ -1,4 +1,4 @@
--- `order::cells::forms_hold` meets its contract. The loop's invariant: every form passed has a legal content.
+-- The invariant of `order::cells::forms_hold`: every form passed has a legal content.
 use Prim.Native.Nat.{ℕ, ◌-◌, ◌≤◌, ◌<◌}
 use lib.Dec.{T}
 use Rattle.rows.specs.Limits.{unknowns}

@@ -1,4 +1,4 @@
--- `order::cells::numbers_clear` meets its contract. The loop's invariant: the test of the cells from i on is the test from `from` on.
+-- The invariant of `order::cells::numbers_clear`: the test of the cells from i on is the test from `from` on.
 use mathlib.Core.Path.{◌≡◌}
 use mathlib.Core.Bool.{Bool}
 use Prim.Native.Nat.{ℕ, ◌-◌}

@@ -13,8 +13,8 @@ pub returns-then-m-ne0-2 : goal.returns-then-m-ne0-2
 returns-then-m-ne0-2 c = simp (eq-eqb _ _ c.if-m-ne0.false, ne_eqb _ _ c.if-m-ne0-2.true)
 
 -- what is left to test
-literals-left : (m : Mark) → m.forms ≡ 0 → m.lines ≡ 0 → eqb m.literals 0 ≡ is_no_mark m
-literals-left m g h = simp (eq-eqb _ _ g, eq-eqb _ _ h)
+literals_left : (m : Mark) → m.forms ≡ 0 → m.lines ≡ 0 → eqb m.literals 0 ≡ is_no_mark m
+literals_left m g h = simp (eq-eqb _ _ g, eq-eqb _ _ h)
 
 pub returns : goal.returns
-returns c = literals-left c.args.m c.if-m-ne0.false c.if-m-ne0-2.false
+returns c = literals_left c.args.m c.if-m-ne0.false c.if-m-ne0-2.false

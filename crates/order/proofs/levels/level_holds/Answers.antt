@@ -33,9 +33,9 @@ lines_hold-requires c =
     let h = not_above→le c.args.m c.args.here (held (goal.at.lines_hold-requires c).Else-not-not_above-2) in
     record {
       forms = omega arith;
-      line-room = omega arith;
+      line_room = omega arith;
       few = omega arith;
-      pool-room = omega arith;
+      pool_room = omega arith;
       little = omega arith;
       order = g.1;
       first = c.requires.first;

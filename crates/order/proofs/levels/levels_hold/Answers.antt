@@ -1,4 +1,4 @@
--- `order::levels::levels_hold` meets its contract. The loop's invariant: every level below i is right, and `low` is the edge before i.
+-- `order::levels::levels_hold` meets its contract.
 use mathlib.Core.Path.{◌≡◌, refl, sym, ap, ◌∙◌, subst}
 use mathlib.Core.Bool.{true}
 use native.Mathlib.Numerals.{add-one}
@@ -29,9 +29,9 @@ level_holds-requires c =
     subst (λ (m : Mark). Below c.args.pool.now c.args.lines.now m c.loop-i.low) (sym h)
     (record {
       forms = q.forms;
-      line-room = omega arith;
+      line_room = omega arith;
       few = q.lines;
-      pool-room = omega arith;
+      pool_room = omega arith;
       little = q.literals;
       first = c.loop-i.invariant.2;
     })

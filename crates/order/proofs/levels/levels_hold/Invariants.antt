@@ -1,4 +1,4 @@
--- `order::levels::levels_hold` meets its contract. The loop's invariant: every level below i is right, and `low` is the edge before i.
+-- The invariant of `order::levels::levels_hold`: every level below i is right, and `low` is the edge before i.
 use mathlib.Core.Path.{◌≡◌}
 use Prim.Native.Nat.{ℕ, ◌+◌, ◌-◌, ◌≤◌, ◌<◌}
 use Rattle.session.specs.Cells.{counts_of, end_before}

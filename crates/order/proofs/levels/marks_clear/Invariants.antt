@@ -1,4 +1,4 @@
--- `order::levels::marks_clear` meets its contract. The loop's invariant: the test of the marks from i on is the test from the open levels on.
+-- The invariant of `order::levels::marks_clear`: the test of the marks from i on is the test from the open levels on.
 use mathlib.Core.Path.{◌≡◌}
 use Prim.Native.Nat.{◌-◌, ◌≤◌}
 use lib.ListN.{drop}

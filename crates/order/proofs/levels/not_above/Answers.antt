@@ -16,9 +16,9 @@ unfolding not_above
 returns-then-b-a-2 c = simp (le-leb _ _ c.if-b-a.false, lt-leb _ _ c.if-b-a-2.true)
 
 -- what is left to test
-literals-left : (a b : Mark) → a.forms ≤ b.forms → a.lines ≤ b.lines → leb a.literals b.literals ≡ not_above a b
+literals_left : (a b : Mark) → a.forms ≤ b.forms → a.lines ≤ b.lines → leb a.literals b.literals ≡ not_above a b
 unfolding not_above
-literals-left a b g h = simp (le-leb _ _ g, le-leb _ _ h)
+literals_left a b g h = simp (le-leb _ _ g, le-leb _ _ h)
 
 pub returns : goal.returns
-returns c = literals-left _ _ c.if-b-a.false c.if-b-a-2.false
+returns c = literals_left _ _ c.if-b-a.false c.if-b-a-2.false

@@ -1,4 +1,4 @@
--- `order::standing::lowest_empty` meets its contract. The loop's invariant: the lowest empty line from i on is the lowest of all.
+-- The invariant of `order::standing::lowest_empty`: the lowest empty line from i on is the lowest of all.
 use mathlib.Core.Path.{◌≡◌}
 use Prim.Native.Nat.{◌-◌, ◌≤◌}
 use Rattle.session.specs.Cells.{end_before}

@@ -6,8 +6,8 @@ use Rattle.ledger.specs.Apply.{pass}
 use Rattle.session.specs.Cells.{Tables, tables}
 use Rattle.session.specs.Answers.{finding_of}
 use Rattle.session.specs.Calls.{entry}
-use Rattle.order.proofs.Entry.{entry-long, entry_clauses}
-use Rattle.order.proofs.EmptyLines.{standing-refused, lowest_empty_lem}
+use Rattle.order.proofs.Entry.{entry_long, entry_clauses}
+use Rattle.order.proofs.EmptyLines.{standing_refused, lowest_empty_lem}
 use Rattle.order.proofs.standing.standing.Goals as goal
 use Rattle.order.proofs.standing.standing.Goals.{In_default, Start}
 
@@ -17,7 +17,7 @@ cells b = tables b.args.forms.now b.args.pool.now b.args.lines.now
 pub returns-in-Fail : goal.returns-in-Fail
 returns-in-Fail c =
     sym
-    (standing-refused unknowns c.args.s (cells (goal.at.returns-in-Fail c).Start) _
+    (standing_refused unknowns c.args.s (cells (goal.at.returns-in-Fail c).Start) _
     (sym c.entered.ensures ∙ ap finding_of c.in-Fail.is))
 
 passes : (c : In_default) →
@@ -26,8 +26,8 @@ passes c = sym c.entered.ensures ∙ ap finding_of c.in_default.is
 
 pub lowest_empty-requires : goal.lowest_empty-requires
 lowest_empty-requires c =
-    let k = (entry_clauses unknowns c.args.s (cells (goal.at.lowest_empty-requires c).Start) (passes c)).few-lines in
-    let l = entry-long unknowns c.args.s (cells (goal.at.lowest_empty-requires c).Start) (passes c) in
+    let k = (entry_clauses unknowns c.args.s (cells (goal.at.lowest_empty-requires c).Start) (passes c)).few_lines in
+    let l = entry_long unknowns c.args.s (cells (goal.at.lowest_empty-requires c).Start) (passes c) in
     omega arith
 
 pub returns : goal.returns

@@ -1,3 +1,4 @@
+-- `records::marks::layout_of` meets its contract.
 use Rattle.records.proofs.marks.layout_of.Goals as goal
 
 pub returns-in-Rule : goal.returns-in-Rule

@@ -1,4 +1,4 @@
--- `mark_in_first_half` meets its contract. The loop's invariant: the bytes bear none of the marks passed, so the rest of the marks decide.
+-- `mark_in_first_half` meets its contract.
 use mathlib.Core.Path.{refl, sym, ◌∙◌}
 use native.Mathlib.Omega.{arith}
 use Rattle.records.proofs.MarkLaws.{borne, not_borne, none_borne}

@@ -1,4 +1,4 @@
--- `mark_in_first_half` meets its contract. The loop's invariant: the bytes bear none of the marks passed, so the rest of the marks decide.
+-- The invariant of `mark_in_first_half`: the bytes bear none of the marks passed, so the rest of the marks decide.
 use Prim.Native.Nat.{◌-◌}
 use lib.ListN.{length, take}
 use Rattle.ledger.specs.Record.{marks as table}

@@ -1,3 +1,4 @@
+-- `records::shape::count_in` meets its contract.
 use borrow.Author.Tests.{lt-leb, le-leb}
 use Rattle.records.proofs.shape.count_in.Goals as goal
 

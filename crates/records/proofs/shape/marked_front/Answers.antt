@@ -1,3 +1,4 @@
+-- `records::shape::marked_front` meets its contract.
 use mathlib.Core.Path.{sym, ap, ◌∙◌}
 use borrow.Author.Tests.{not-true, not-false}
 use Rattle.ledger.specs.Record.{Layout}

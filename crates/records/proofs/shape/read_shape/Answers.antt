@@ -1,3 +1,4 @@
+-- `records::shape::read_shape` meets its contract.
 use mathlib.Core.Path.{sym, ap, ◌∙◌}
 use borrow.Author.Tests.{lt-leb, le-leb}
 use lib.ListN.{length}

@@ -1,3 +1,4 @@
+-- `records::shape::shape_of` meets its contract.
 use mathlib.Core.Path.{sym, ◌∙◌}
 use native.Mathlib.Nat.{mul-zero, add-zero}
 use borrow.Author.Tests.{eq-eqb, ne_eqb, lt-ltb, le-ltb, not-true, not-false}

@@ -1,3 +1,4 @@
+-- `records::shape::whole_front` meets its contract.
 use Rattle.ledger.proofs.FrontLaws.{not_there}
 use Rattle.records.proofs.FrontLaws.{there_whole}
 use Rattle.records.proofs.shape.whole_front.Goals as goal

@@ -1,3 +1,4 @@
+-- The invariant of `replay::input::fill`: the buffer is not filled beyond its end; each read that gave bytes brings that nearer.
 use Rattle.std.proofs.Common.{◌≤◌, ◌-◌}
 use Rattle.replay.proofs.input.fill.Given as goal
 

@@ -1,3 +1,4 @@
+-- `rules::forms::holds` meets its contract.
 use Rattle.ledger.specs.Apply.{finding}
 use Rattle.rules.proofs.forms.holds.Goals as goal
 

@@ -1,4 +1,4 @@
--- `session::clear::clear_forms` meets its contract, and ends since half a part is shorter. Invariant: the first i cells are 0 and the others are as they were.
+-- `session::clear::clear_forms` meets its contract.
 use mathlib.Core.Path.{◌≡◌, ◌∙◌, ap, refl, sym}
 use mathlib.Core.List.{List, ◌++◌, append-nil}
 use Prim.Native.Nat.{ℕ, ◌+◌, ◌≤◌, ◌<◌, ◌-◌, ◌/◌}
@@ -15,13 +15,6 @@ module _ {A : Type 0} where
 
   rest_length : (h : ℕ) (ws : List A) → length (take (length ws - h) (drop h ws)) ≡ length ws - h
   rest_length h ws = rw (take_all (length ws - h) (drop h ws) (rest_fits h ws)) (length-drop h ws)
-
-  first_shorter : (t h : ℕ) (xs : List A) → length xs ≡ t → h < length xs → length (take (h - 0) xs) < t
-  first_shorter t h xs m g = rw (length-take-le (h - 0) xs (omega arith)) (omega arith)
-
-  rest_shorter : (t h : ℕ) (xs ys : List A) → length xs ≡ t → 0 < h → h ≤ length xs → length ys ≡ length (take (h - 0) xs)
-      → length (take (length (ys ++ drop (h - 0) xs) - h) (drop h (ys ++ drop (h - 0) xs))) < t
-  rest_shorter t h xs ys m p g e = rw (rest_length h (ys ++ drop (h - 0) xs), length_front xs ys (h - 0) e) (omega arith)
 
   -- where the first h cells of ws are z, and the others come back z
   rest_cleared : (z : A) (h : ℕ) (ws zs : List A) → h ≤ length ws → take h ws ≡ replicate h z → zs ≡ replicate (length (take (length ws - h) (drop h ws))) z

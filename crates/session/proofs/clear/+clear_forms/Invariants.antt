@@ -1,4 +1,4 @@
--- `session::clear::clear_forms` meets its contract, and ends since half a part is shorter. Invariant: the first i cells are 0 and the others are as they were.
+-- `session::clear::clear_forms` ends since half a part is shorter. Its invariant: the first i cells are 0 and the others are as they were.
 use Rattle.std.proofs.Common.{length, ◌-◌, ◌≡◌, pos, replicate, drop, ◌++◌, ◌≤◌}
 use Rattle.session.proofs.clear.+clear_forms.Given as goal
 

@@ -1,4 +1,4 @@
--- `session::clear::clear_numbers` meets its contract. Invariant: the first i cells are 0 and the others are as they were.
+-- `session::clear::clear_numbers` meets its contract.
 use native.Mathlib.Omega.{arith}
 use lib.ListN.{length-set}
 use Rattle.session.proofs.Filling.{fill_more, fill_all}

@@ -1,4 +1,4 @@
--- `session::clear::clear_numbers` meets its contract. Invariant: the first i cells are 0 and the others are as they were.
+-- The invariant of `session::clear::clear_numbers`: the first i cells are 0 and the others are as they were.
 use mathlib.Core.Path.{◌≡◌}
 use mathlib.Core.List.{◌++◌}
 use Prim.Native.Nat.{◌≤◌, ◌-◌}

@@ -2,7 +2,7 @@
 use Rattle.rows.specs.Limits.{unknowns}
 use Rattle.session.specs.Cells.{Tables, tables}
 use Rattle.session.specs.Parts.{Long}
-use Rattle.session.proofs.Starting.{passed→long, start-refused, start-passed}
+use Rattle.session.proofs.Starting.{passed→long, start_refused, start_passed}
 use Rattle.session.proofs.start.start.Goals as goal
 use Rattle.session.proofs.start.start.Goals.{In_default, Start}
 
@@ -12,7 +12,7 @@ lent c = tables c.args.forms.now c.args.pool.now c.args.lines.now
 
 pub returns-in-Fail : goal.returns-in-Fail
 returns-in-Fail c =
-    start-refused unknowns (lent (goal.at.returns-in-Fail c).Start) _ c.sized.ensures
+    start_refused unknowns (lent (goal.at.returns-in-Fail c).Start) _ c.sized.ensures
     _ c.fresh.ensures c.in-Fail.why c.in-Fail.is
 
 -- so the parts that are cleared exist
@@ -20,17 +20,17 @@ long_then : (c : In_default) → Long unknowns (lent (goal.at.In_default c).Star
 long_then c = passed→long unknowns _ _ c.sized.ensures c.in_default.is
 
 pub slice_bounds-clear_forms-end : goal.slice_bounds-clear_forms-end
-slice_bounds-clear_forms-end c = (long_then c).form-room
+slice_bounds-clear_forms-end c = (long_then c).form_room
 
 pub slice_bounds-clear_numbers-end : goal.slice_bounds-clear_numbers-end
-slice_bounds-clear_numbers-end c = (long_then (goal.at.slice_bounds-clear_numbers-end c).In_default).pool-room
+slice_bounds-clear_numbers-end c = (long_then (goal.at.slice_bounds-clear_numbers-end c).In_default).pool_room
 
 pub slice_bounds-clear_numbers-end-2 : goal.slice_bounds-clear_numbers-end-2
-slice_bounds-clear_numbers-end-2 c = (long_then (goal.at.slice_bounds-clear_numbers-end-2 c).In_default).line-room
+slice_bounds-clear_numbers-end-2 c = (long_then (goal.at.slice_bounds-clear_numbers-end-2 c).In_default).line_room
 
 pub returns : goal.returns
 returns c =
-    start-passed unknowns (lent (goal.at.returns c).Start) _ c.sized.ensures
+    start_passed unknowns (lent (goal.at.returns c).Start) _ c.sized.ensures
     _ c.fresh-2.ensures _ _ _ c.in_default.is
     c.clear_forms.ensures
     c.clear_numbers.ensures

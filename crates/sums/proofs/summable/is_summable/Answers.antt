@@ -1,4 +1,4 @@
--- `sums::summable::is_summable` meets its contract. The loop's invariant: the test of the terms from i on is the test of all.
+-- `sums::summable::is_summable` meets its contract.
 use mathlib.Core.Path.{◌≡◌, sym, ap, ◌∙◌}
 use mathlib.Core.Bool.{◌&&◌}
 use Prim.Native.Nat.{◌+◌}
@@ -12,24 +12,24 @@ use mir.ValLaws.{to_z-of_z}
 use Rattle.ints.specs.Tests.{all}
 use Rattle.rows.specs.Limits.{unknowns}
 use Rattle.rows.specs.Summable.{terms, summand, summable}
-use Rattle.rows.proofs.TermLaws.{term, next-term, summable-is, not-summable}
+use Rattle.rows.proofs.TermLaws.{term, next_term, summable_is, not_summable}
 use Rattle.sums.proofs.summable.is_summable.Goals as goal
 use Rattle.sums.proofs.summable.is_summable.Goals.{After-is_summand}
 
 pub returns-then-picks-gt-MOST_TERMS : goal.returns-then-picks-gt-MOST_TERMS
 returns-then-picks-gt-MOST_TERMS c =
     let a = c.args in
-    sym (not-summable unknowns a.table.now a.picks.now a.multipliers.now (λ s. omega (arith, s.few)))
+    sym (not_summable unknowns a.table.now a.picks.now a.multipliers.now (λ s. omega (arith, s.few)))
 
 pub returns-then-picks-multipliers : goal.returns-then-picks-multipliers
 returns-then-picks-multipliers c =
     let a = c.args in
-    sym (not-summable unknowns a.table.now a.picks.now a.multipliers.now (λ s. c.if-picks-multipliers.true s.paired))
+    sym (not_summable unknowns a.table.now a.picks.now a.multipliers.now (λ s. c.if-picks-multipliers.true s.paired))
 
 pub loop-i-init : goal.loop-i-init
 loop-i-init c =
     let a = c.args in
-    (search rules, sym (summable-is unknowns a.table.now a.picks.now a.multipliers.now (omega arith) c.if-picks-multipliers.false))
+    (search rules, sym (summable_is unknowns a.table.now a.picks.now a.multipliers.now (omega arith) c.if-picks-multipliers.false))
 
 pub is_summand-requires : goal.is_summand-requires
 is_summand-requires c = tt
@@ -45,7 +45,7 @@ rest c =
     let f = get_or a.picks.now c.loop-i.i 0 in
     let m = get_or a.multipliers.now c.loop-i.i (pos 0) in
     let e = c.is_summand.ensures ∙ ap (λ (x : ℤ). test (term f x)) (to_z-of_z w32 m (sfits_of c.m-1.given)) in
-    rw e (sym (ap (all test) (next-term a.picks.now a.multipliers.now c.loop-i.i c.if-picks-multipliers.false (omega arith))) ∙ c.loop-i.invariant.1)
+    rw e (sym (ap (all test) (next_term a.picks.now a.multipliers.now c.loop-i.i c.if-picks-multipliers.false (omega arith))) ∙ c.loop-i.invariant.1)
 
 pub returns-then-not-is_summand : goal.returns-then-not-is_summand
 returns-then-not-is_summand c = simp (not-true c.is_summand.result c.if-not-is_summand.true-raw) at (rest (goal.at.returns-then-not-is_summand c).After-is_summand)

@@ -1,4 +1,4 @@
--- `sums::summable::is_summable` meets its contract. The loop's invariant: the test of the terms from i on is the test of all.
+-- The invariant of `sums::summable::is_summable`: the test of the terms from i on is the test of all.
 use mathlib.Core.Path.{◌≡◌}
 use Prim.Native.Nat.{◌-◌, ◌≤◌}
 use lib.ListN.{length, drop}

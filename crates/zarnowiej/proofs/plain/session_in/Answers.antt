@@ -1,4 +1,4 @@
--- `plain::session_in` meets its contract. Invariant: the first i marks have crossed.
+-- `plain::session_in` meets its contract.
 use mathlib.Core.Path.{◌≡◌, ap}
 use Prim.Native.Nat.{◌<◌}
 use native.Mathlib.Omega.{arith}
@@ -10,8 +10,8 @@ use Rattle.zarnowiej.proofs.MarksCross.{crosses, all_cross}
 use Rattle.zarnowiej.proofs.plain.session_in.Goals as goal
 use Rattle.zarnowiej.proofs.plain.session_in.Goals.{Start}
 
-marks-length : (b : Start) → length b.args.s.marks ≡ most_levels
-marks-length b = b.well_formed.0.1.1.1.1.1.1.0.1.0.1
+marks_length : (b : Start) → length b.args.s.marks ≡ most_levels
+marks_length b = b.well_formed.0.1.1.1.1.1.1.0.1.0.1
 
 pub bounds-marks-i : goal.bounds-marks-i
 bounds-marks-i c = search rules
@@ -19,7 +19,7 @@ bounds-marks-i c = search rules
 pub loop-i-preserved : goal.loop-i-preserved
 loop-i-preserved c =
     let w = c.loop-i in
-    let here : w.i < length c.args.s.marks = rw (marks-length (goal.at.loop-i-preserved c).Start) (bounds-marks-i c) in
+    let here : w.i < length c.args.s.marks = rw (marks_length (goal.at.loop-i-preserved c).Start) (bounds-marks-i c) in
     let there : w.i < length w.marks = rw w.invariant.1 (bounds-marks-i c) in (
       search rules,
       simp length-set w.invariant.1,
@@ -32,4 +32,4 @@ returns c =
     let w = c.loop-i in
     let all : w.i ≡ most_levels = omega arith in
     ap (λ m. record { forms = s.forms; lines = s.lines; literals = s.literals; «open» = s.«open»; marks = m })
-    (all_cross mark_in s.marks w.marks most_levels (marks-length (goal.at.returns c).Start) w.invariant.1 (rw all at w.invariant.2))
+    (all_cross mark_in s.marks w.marks most_levels (marks_length (goal.at.returns c).Start) w.invariant.1 (rw all at w.invariant.2))

@@ -1,4 +1,4 @@
--- `plain::session_out` meets its contract. Invariant: the first i marks have crossed.
+-- The invariant of `plain::session_out`: the first i marks have crossed.
 use mathlib.Core.Path.{◌≡◌}
 use mathlib.Core.List.{map}
 use Prim.Native.Nat.{◌-◌, ◌≤◌}

@@ -6,39 +6,28 @@ ghost use Rattle.rows.specs.Row.{scaled, shifted};
 ghost use Rattle.rows.specs.Summable.{row_at, Inside};
 ghost use Rattle.rows.specs.Conditions.{same_row, is_one_minus, is_one_more, is_either};
 
+use contents::cells::row;
+
 // Whether each cell of a is m times that of b.
 pub fn is_scaled(a: &[i32], m: i32, b: &[i32]) -> bool
     ensures { result ≡ eq_zs a.now (scaled m b.now) }
 {
-    if a.len() != b.len() {
-        return false;
-    }
-    let mut i: usize = 0;
-    while i < a.len() {
-        let x = a[i];
-        let y = b[i];
-        if !contents::exact::is_affine(x, 0, m, y) {
-            return false;
-        }
-        i += 1;
-    }
-    true
+    a.len() == b.len()
+        && a.iter()
+            .zip(b)
+            .all(|(&x, &y)| contents::exact::is_affine(x, 0, m, y))
 }
 
 // Whether the row a is n + m times the row b.
+#[tactic(auto, using(crate::proofs::RowTests::comparing))]
 fn is_image(a: &[i32], n: i32, m: i32, b: &[i32]) -> bool
     requires { 0 < length b.now }
     ensures { result ≡ eq_zs a.now (shifted n (scaled m b.now)) }
 {
-    if a.len() == 0 {
+    let Some((&x, rest)) = a.split_first() else {
         return false;
-    }
-    let x = a[0];
-    let y = b[0];
-    if !contents::exact::is_affine(x, n, m, y) {
-        return false;
-    }
-    is_scaled(&a[1..], m, &b[1..])
+    };
+    contents::exact::is_affine(x, n, m, b[0]) && is_scaled(rest, m, &b[1..])
 }
 
 // Whether the row of form a is n + m times the row of form b.
@@ -46,12 +35,7 @@ pub fn matches(table: &[i32], a: u16, n: i32, m: i32, b: u16) -> bool
     requires { Inside unknowns table.now a × Inside unknowns table.now b }
     ensures { result ≡ same_row (row_at unknowns table.now a) (shifted n (scaled m (row_at unknowns table.now b))) }
 {
-    is_image(
-        contents::cells::row(table, a),
-        n,
-        m,
-        contents::cells::row(table, b),
-    )
+    is_image(row(table, a), n, m, row(table, b))
 }
 
 // WK: whether the rows are equal.
@@ -71,6 +55,7 @@ pub fn is_one_minus(table: &[i32], b: u16, a: u16) -> bool
 }
 
 // u of TR: whether u = t + 1.
+#[tactic(auto, using(crate::proofs::RowTests::comparing))]
 pub fn is_one_more(table: &[i32], u: u16, t: u16) -> bool
     requires { Inside unknowns table.now u × Inside unknowns table.now t }
     ensures { result ≡ is_one_more (row_at unknowns table.now u) (row_at unknowns table.now t) }
@@ -83,8 +68,5 @@ pub fn is_either(table: &[i32], a: u16, t: u16) -> bool
     requires { Inside unknowns table.now a × Inside unknowns table.now t }
     ensures { result ≡ is_either (row_at unknowns table.now a) (row_at unknowns table.now t) }
 {
-    if same_row(table, a, t) {
-        return true;
-    }
-    matches(table, a, 0, -1, t)
+    same_row(table, a, t) || matches(table, a, 0, -1, t)
 }

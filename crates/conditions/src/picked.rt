@@ -11,16 +11,9 @@ pub fn divisors_are(table: &[i32], picks: &[u16], divisor: i32) -> bool
     requires { Picked unknowns table.now picks.now }
     ensures { result ≡ all (λ f. eq_z (form_at unknowns table.now f).divisor divisor) picks.now }
 {
-    let mut i: usize = 0;
-    while i < picks.len() {
-        let f = picks[i];
-        let d = contents::cells::divisor(table, f);
-        if d != divisor {
-            return false;
-        }
-        i += 1;
-    }
-    true
+    picks
+        .iter()
+        .all(|&f| contents::cells::divisor(table, f) == divisor)
 }
 
 // AR: whether the row at place i, counted from 0, is the first row plus i.
@@ -29,13 +22,11 @@ pub fn are_neighbours(table: &[i32], picks: &[u16]) -> bool
     ensures { result ≡ neighbours (map (row_at unknowns table.now) picks.now) }
 {
     let first = picks[0];
-    let mut i: usize = 1;
-    while i < picks.len() {
-        let f = picks[i];
-        if !crate::compare::matches(table, f, i as i32, 1, first) {
+    // By index: the place is what a row is more than the first.
+    for i in 1..picks.len() {
+        if !crate::compare::matches(table, picks[i], i as i32, 1, first) {
             return false;
         }
-        i += 1;
     }
     true
 }

@@ -4,11 +4,13 @@ ghost use Rattle.rows.specs.Limits.{unknowns};
 ghost use Rattle.rows.specs.Form.{form_at};
 ghost use Rattle.rows.specs.Summable.{row_at, Inside};
 
+// A table and the number of a form, as records name it: a struct of both would be made anew at each call, with the clause `Inside` to show there.
+
 // Whether the table has form f.
 pub fn has_form(table: &[i32], f: u16) -> bool
     ensures { result ≡ leb ((unknowns + 3) * f + (unknowns + 3)) (length table.now) }
 {
-    rows::FORM_CELLS * (f as usize) + rows::FORM_CELLS <= table.len()
+    rows::FORM_CELLS * usize::from(f) + rows::FORM_CELLS <= table.len()
 }
 
 // The kind of form f.
@@ -16,7 +18,7 @@ pub fn kind(table: &[i32], f: u16) -> i32
     requires { Inside unknowns table.now f }
     ensures { result ≡ (form_at unknowns table.now f).kind }
 {
-    let at = rows::FORM_CELLS * (f as usize);
+    let at = rows::FORM_CELLS * usize::from(f);
     table[at]
 }
 
@@ -25,7 +27,7 @@ pub fn divisor(table: &[i32], f: u16) -> i32
     requires { Inside unknowns table.now f }
     ensures { result ≡ (form_at unknowns table.now f).divisor }
 {
-    let at = rows::FORM_CELLS * (f as usize) + 1;
+    let at = rows::FORM_CELLS * usize::from(f) + 1;
     table[at]
 }
 
@@ -34,7 +36,7 @@ pub fn row(table: &[i32], f: u16) -> &[i32]
     requires { Inside unknowns table.now f }
     ensures { result.now ≡ row_at unknowns table.now f }
 {
-    let at = rows::FORM_CELLS * (f as usize) + 2;
+    let at = rows::FORM_CELLS * usize::from(f) + 2;
     let end = at + rows::ROW_CELLS;
     &table[at..end]
 }

@@ -15,18 +15,10 @@ pub fn in_range(x: i32) -> bool
 pub fn all_in_range(cells: &[i32]) -> bool
     ensures { result ≡ all in_range cells.now }
 {
-    let mut i: usize = 0;
-    while i < cells.len() {
-        let x = cells[i];
-        if !in_range(x) {
-            return false;
-        }
-        i += 1;
-    }
-    true
+    cells.iter().all(|&x| in_range(x))
 }
 
-// Whether a form of this kind may have this divisor.
+// Whether a form of this kind may have this divisor. The kind is the number of a cell, which may be any: an enum would take fewer.
 pub fn legal_divisor(kind: i32, divisor: i32) -> bool
     ensures { result ≡ legal_divisor kind divisor }
 {
@@ -37,6 +29,7 @@ pub fn legal_divisor(kind: i32, divisor: i32) -> bool
 }
 
 // Whether the cells are those of a form with legal content.
+#[tactic(auto, unfolding(rows::specs::Form::legal))]
 pub fn legal(cells: &[i32]) -> bool
     ensures { result ≡ legal unknowns (form_of cells.now) }
 {
@@ -54,7 +47,8 @@ pub fn legal(cells: &[i32]) -> bool
     all_in_range(&cells[2..])
 }
 
-// Whether a form of this kind may be added m times.
+// Whether a form of this kind, by its number, may be added m times.
+#[tactic(auto, unfolding(rows::specs::Form::legal_multiplier))]
 pub fn legal_multiplier(kind: i32, m: i32) -> bool
     ensures { result ≡ legal_multiplier kind m }
 {

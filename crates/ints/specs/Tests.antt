@@ -1,6 +1,7 @@
 -- Tests of whole numbers and of lists, each a Bool that can be computed, of which every test of the checker is made; and lists by index.
-use Rattle.std.specs.Prelude.{Bool, true, false, not, ◌&&◌, ◌||◌, List, [], ◌∷◌, ◌++◌, ℕ, zero, suc, ◌%◌, eqb, ℤ, pos, negsuc, nat_abs}
+use Rattle.std.specs.Prelude.{Bool, true, false, not, ◌&&◌, List, [], ◌∷◌, ◌++◌, ℕ, zero, suc, ◌%◌, eqb, ℤ, pos, negsuc, nat_abs}
 use Rattle.std.specs.Int.Signed.{le_z}
+use Rattle.std.specs.List.{list_all, list_any}
 
 abbrev pub eq_z : ℤ → ℤ → Bool
 eq_z (pos a) (pos b) = eqb a b
@@ -24,12 +25,10 @@ eq_zs (x ∷ xs) (y ∷ ys) = eq_z x y && eq_zs xs ys
 
 module _ {A : Type 0} where
   abbrev pub all : (A → Bool) → List A → Bool
-  all p [] = true
-  all p (x ∷ xs) = p x && all p xs
+  all = list_all
 
   abbrev pub any : (A → Bool) → List A → Bool
-  any p [] = false
-  any p (x ∷ xs) = p x || any p xs
+  any = list_any
 
   -- f 0, f 1, up to f (n − 1)
   unfoldable pub up_to : ℕ → (ℕ → A) → List A

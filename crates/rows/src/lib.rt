@@ -2,6 +2,7 @@
 // share, and what a sum of rows reaches.
 #![tactic(auto)]
 
+// What a sum of rows reaches. Neither of the two is a failure, and the definition `reached` names both.
 #[derive(Clone, Copy)]
 pub enum Reached {
     // The lowest unknown whose sum is no multiple of the modulus, with that sum.

@@ -17,12 +17,9 @@ fn add_scaled(sums: &mut [i64], m: i32, row: &[i32])
     requires { Addable m sums.old row.now }
     ensures { sums.new ≡ plus sums.old (scaled m row.now) }
 {
-    let mut j: usize = 0;
-    while j < row.len() {
-        let s = sums[j];
-        let k = row[j];
-        sums[j] = contents::exact::plus_times(s, m, k);
-        j += 1;
+    // By index: what a zip of `iter_mut` writes is not known afterwards.
+    for j in 0..row.len() {
+        sums[j] = contents::exact::plus_times(sums[j], m, row[j]);
     }
 }
 
@@ -32,12 +29,13 @@ fn sum_rows(table: &[i32], picks: &[u16], multipliers: &[i32]) -> [i64; rows::RO
     ensures { result ≡ summed unknowns (row_at unknowns table.now) (terms picks.now multipliers.now) }
 {
     let mut sums = [0i64; rows::ROW_CELLS];
-    let mut i: usize = 0;
-    while i < picks.len() {
-        let f = picks[i];
-        let m = multipliers[i];
-        add_scaled(&mut sums, m, contents::cells::row(table, f));
-        i += 1;
+    // By index: a zip tests both lengths, and takes more instructions.
+    for i in 0..picks.len() {
+        add_scaled(
+            &mut sums,
+            multipliers[i],
+            contents::cells::row(table, picks[i]),
+        );
     }
     sums
 }
@@ -47,18 +45,17 @@ fn lowest(sums: [i64; rows::ROW_CELLS], modulus: i32) -> Reached
     requires { Small sums }
     ensures { result ≡ reached modulus sums }
 {
-    let mut k: usize = 0;
-    while k < rows::UNKNOWNS {
-        let s = sums[k + 1];
-        if !contents::exact::is_multiple(s, modulus) {
-            return Reached::Coefficient(k, s);
-        }
-        k += 1;
+    let stray = sums[1..]
+        .iter()
+        .position(|&s| !contents::exact::is_multiple(s, modulus));
+    match stray {
+        Some(k) => Reached::Coefficient(k, sums[k + 1]),
+        None => Reached::Constant(sums[0]),
     }
-    Reached::Constant(sums[0])
 }
 
-// What the sum of the picked forms' rows, each its multiplier times, reaches.
+// What the sum of the picked forms' rows, each its multiplier times, reaches. Two lists side by side, as the scratch has them: to make one of pairs
+// would copy both for each sum.
 pub fn combine(table: &[i32], picks: &[u16], multipliers: &[i32], modulus: i32) -> Reached
     requires { Summable unknowns table.now picks.now multipliers.now }
     ensures { result ≡ reached modulus (summed unknowns (row_at unknowns table.now) (terms picks.now multipliers.now)) }

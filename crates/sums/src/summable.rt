@@ -7,13 +7,9 @@ ghost use Rattle.rows.specs.Summable.{summand, summable};
 fn is_summand(table: &[i32], f: u16, m: i32) -> bool
     ensures { result ≡ summand unknowns table.now (record { form = f; multiplier = m }) }
 {
-    if !contents::cells::has_form(table, f) {
-        return false;
-    }
-    if !contents::content::all_in_range(contents::cells::row(table, f)) {
-        return false;
-    }
-    contents::exact::is_between(-rows::LARGEST_MULTIPLIER, rows::LARGEST_MULTIPLIER, m)
+    contents::cells::has_form(table, f)
+        && contents::content::all_in_range(contents::cells::row(table, f))
+        && contents::exact::is_between(-rows::LARGEST_MULTIPLIER, rows::LARGEST_MULTIPLIER, m)
 }
 
 pub fn is_summable(table: &[i32], picks: &[u16], multipliers: &[i32]) -> bool
@@ -25,14 +21,8 @@ pub fn is_summable(table: &[i32], picks: &[u16], multipliers: &[i32]) -> bool
     if picks.len() != multipliers.len() {
         return false;
     }
-    let mut i: usize = 0;
-    while i < picks.len() {
-        let f = picks[i];
-        let m = multipliers[i];
-        if !is_summand(table, f, m) {
-            return false;
-        }
-        i += 1;
-    }
-    true
+    picks
+        .iter()
+        .zip(multipliers)
+        .all(|(&f, &m)| is_summand(table, f, m))
 }

@@ -1,53 +1,55 @@
--- `sums::lowest` meets its contract.
-use mathlib.Core.Path.{sym, ap, ◌∙◌}
-use Prim.Native.Nat.{◌+◌}
+-- `sums::lowest` meets its contract: `position` finds the first sum behind the constant that is no multiple.
+use mathlib.Core.Path.{◌≡◌, sym, ◌∙◌}
+use Prim.Native.Nat.{ℕ, ◌+◌, ◌<◌, ◌^◌}
 use native.Mathlib.Omega.{arith}
-use borrow.Author.Rules.{sfits_of}
-use borrow.Author.Tests.{not-true, not-false}
-use lib.IntN.{ℤ, pos}
-use lib.ListN.{get_or}
-use mir.Syntax.{w32, w64}
-use mir.Val.{to_z, of_z}
+use borrow.Author.Rules.{rules}
+use borrow.Author.Tests.{tests}
+use mathlib.Core.List.{List}
+use lib.IntN.{ℤ, pos, nat_abs}
+use lib.ListN.{length, get_or, take, drop, length-drop}
+use lib.Seq.{take_all, get_or-drop}
+use mir.Syntax.{w64}
+use mir.Val.{SFits}
+use Rattle.std.proofs.Common.{Iter}
+use Rattle.std.specs.Slice.Iter.{iter_rest}
+use Rattle.std.specs.List.{position_from}
+use Rattle.std.proofs.lemmas.List.{get_or_read}
+use Rattle.rows.specs.Limits.{unknowns}
+use Rattle.rows.specs.Summable.{Small}
+use Rattle.sums.proofs.SumTests.{stray, lowest_none, lowest_some}
 use mir.ValLaws.{to_z-of_z}
-use Rattle.ints.specs.Tests.{divides}
-use Rattle.rows.specs.declared.Reached.TheVariants.{Coefficient, Constant}
-use Rattle.rows.specs.Summable.{reached}
-use Rattle.rows.proofs.SumLaws.{lowest_next, lowest_stop, lowest_over}
+use Rattle.std.proofs.lemmas.Iterator.{YieldsList, YieldsList-from_slice}
+use Rattle.std.proofs.iter.Yields.{fronts}
+use Rattle.std.proofs.lemmas.Iterator.Adapters.{serves_from_places, position_from-zero}
+use Rattle.std.proofs.lemmas.Iterator.Search.{position_from_yields_List}
 use Rattle.sums.proofs.lowest.Goals as goal
+use Rattle.sums.proofs.lowest.Goals.{After-position-stray}
 
-pub is_multiple-requires : goal.is_multiple-requires
-is_multiple-requires c =
-    let sums = c.args.sums in
-    rw (to_z-of_z w64 (get_or sums (c.loop-k.k + 1) (pos 0)) (sfits_of c.s-1.given)) (c.requires.small (c.loop-k.k + 1))
+-- what is searched are the sums behind the constant
+road : {s : Iter ℤ} (sums : List ℤ) → iter_rest s ≡ take unknowns (drop 1 sums) → length sums ≡ unknowns + 1
+    → YieldsList fronts (λ x. x.now) s (drop 1 sums)
+road {s} sums e l = YieldsList-from_slice (drop 1 sums) (e ∙ take_all unknowns (drop 1 sums) (omega (arith, length-drop 1 sums)))
 
-pub returns-then-not-is_multiple : goal.returns-then-not-is_multiple
-returns-then-not-is_multiple c =
-    let sums = c.args.sums in
-    let d = to_z w32 (of_z w32 c.args.modulus) in
-    let k = c.loop-k.k in
-    let e = to_z-of_z w64 (get_or sums (k + 1) (pos 0)) (sfits_of c.s-1.given) in
-    let m = to_z-of_z w32 c.args.modulus c.ranges.modulus in
-    ap (Coefficient k) e
-    ∙ lowest_stop d (get_or sums 0 (pos 0)) sums k (omega arith) (sym (c.is_multiple.ensures ∙ ap (divides d) e) ∙ not-true _ c.if-not-is_multiple.true-raw)
-    ∙ c.loop-k.invariant.1
-    ∙ ap (λ (z : ℤ). reached z sums) m
+small : {sums : List ℤ} → Small sums → (x : ℤ) (k : ℕ) → k < length (drop 1 sums) → x ≡ get_or (drop 1 sums) k x → nat_abs x < 2 ^ 63
+small {sums} s x k h e = rw (get_or_read (drop 1 sums) k x h e (pos 0), get_or-drop 1 sums k (pos 0)) (s.small (1 + k))
 
-pub loop-k-preserved : goal.loop-k-preserved
-loop-k-preserved c =
-    let sums = c.args.sums in
-    let d = to_z w32 (of_z w32 c.args.modulus) in
-    let k = c.loop-k.k in
-    let e = to_z-of_z w64 (get_or sums (k + 1) (pos 0)) (sfits_of c.s-1.given) in (
-      omega arith,
-      lowest_next d (get_or sums 0 (pos 0)) sums k (omega arith) (sym (c.is_multiple.ensures ∙ ap (divides d) e) ∙ not-false _ c.if-not-is_multiple.false-raw)
-          ∙ c.loop-k.invariant.1,
-    )
+pub position-stray-requires-clause-callable : goal.position-stray-requires-clause-callable
+position-stray-requires-clause-callable c =
+    serves_from_places (road c.args.sums c.iter.ensures.rest (omega arith)) (λ x q k. search rules)
+    (λ x k h e. let f = small c.requires x.now k h e in search rules)
 
-pub returns : goal.returns
-returns c =
-    let sums = c.args.sums in
-    let d = to_z w32 (of_z w32 c.args.modulus) in
-    ap Constant (to_z-of_z w64 (get_or sums 0 (pos 0)) (sfits_of c.result-1.given))
-    ∙ lowest_over d (get_or sums 0 (pos 0)) sums c.loop-k.k (omega arith)
-    ∙ c.loop-k.invariant.1
-    ∙ ap (λ (z : ℤ). reached z sums) (to_z-of_z w32 c.args.modulus c.ranges.modulus)
+found : (c : After-position-stray) → c.position-stray.result ≡ position_from (stray c.args.modulus) 0 (drop 1 c.args.sums)
+found c =
+    position_from_yields_List (stray c.args.modulus) c.position-stray.new.self _ _ c.position-stray.ensures.ran (road c.args.sums c.iter.ensures.rest (omega arith))
+    (λ x b q k. search (rules, tests, to_z-of_z))
+    ∙ position_from-zero (stray c.args.modulus) (drop 1 c.args.sums)
+
+pub returns-in-None : goal.returns-in-None
+returns-in-None c =
+    let fit : SFits w64 (get_or c.args.sums 0 (pos 0)) = search rules in
+    rw (to_z-of_z w64 _ fit) (lowest_none c.args.modulus (get_or c.args.sums 0 (pos 0)) 0 (drop 1 c.args.sums) (sym c.in-None.is ∙ found (goal.at.returns-in-None c).After-position-stray))
+
+pub returns-in-Some : goal.returns-in-Some
+returns-in-Some c =
+    let fit : SFits w64 (get_or c.args.sums (c.in-Some.k + 1) (pos 0)) = search rules in
+    rw (to_z-of_z w64 _ fit) (lowest_some c.args.modulus (get_or c.args.sums 0 (pos 0)) c.in-Some.k c.args.sums (sym c.in-Some.is ∙ found (goal.at.returns-in-Some c).After-position-stray))

@@ -1,59 +1,37 @@
--- `conditions::picked::are_neighbours` meets its contract.
-use mathlib.Core.Path.{◌≡◌, sym, ap, ◌∙◌}
-use mathlib.Core.Bool.{Bool, ◌&&◌}
+-- `conditions::picked::are_neighbours` meets its contract: the row at place i is tested, and what is left are those behind it.
+use mathlib.Core.Path.{◌≡◌, sym, ◌∙◌}
+use mathlib.Core.Bool.{◌&&◌}
 use mathlib.Core.List.{map}
 use Prim.Native.Nat.{◌+◌}
 use native.Mathlib.Omega.{arith}
-use borrow.Author.Tests.{not-true, not-false}
-use lib.IntN.{ℤ, pos}
-use mir.Syntax.{w32}
-use mir.Val.{SFits}
-use mir.ValLaws.{to_z-of_z}
 use lib.ListN.{get_or, drop}
+use mir.Syntax.{w32}
+use mir.ValLaws.{to_z_pos}
 use Rattle.rows.specs.Limits.{unknowns}
 use Rattle.rows.specs.Summable.{row_at}
-use Rattle.rows.specs.Conditions.{same_row, neighbours_from, neighbours}
-use Rattle.rows.specs.Row.{shifted}
+use Rattle.rows.specs.Conditions.{neighbours_from, neighbours}
 use Rattle.rows.proofs.RowLaws.{scaled_one}
 use Rattle.rows.proofs.Remainders.{neighbours_all, neighbours_step, neighbours_over}
-use borrow.Author.Rules.{sfits_of}
 use Rattle.conditions.proofs.picked.are_neighbours.Goals as goal
 use Rattle.conditions.proofs.picked.are_neighbours.Goals.{After-matches}
 
 pub loop-i-init : goal.loop-i-init
-loop-i-init c =
-    let a = c.args in
-    (omega arith, c.requires.1, neighbours_all (row_at unknowns a.table.now) a.picks.now c.requires.1)
+loop-i-init c = neighbours_all (row_at unknowns c.args.table.now) c.args.picks.now c.requires.1
 
-pub overflow_cast-i : goal.overflow_cast-i
-overflow_cast-i c = sfits_of (omega arith)
-
-pub matches-requires : goal.matches-requires
-matches-requires c = (c.requires.0.inside _ (omega arith), c.requires.0.inside 0 c.requires.1)
-
--- the test of the row at i gives r
-tested : (c : After-matches) {r : Bool} → c.matches.result ≡ r
-    → let a = c.args in
-    let row = row_at unknowns a.table.now in
-    r && neighbours_from (c.loop-i.i + 1) (row (get_or a.picks.now 0 0)) (map row (drop (c.loop-i.i + 1) a.picks.now))
-    ≡ neighbours (map row a.picks.now)
-tested c h =
-    let a = c.args in
-    let row = row_at unknowns a.table.now in
-    let fit : SFits w32 (pos c.loop-i.i) = sfits_of (omega arith) in
-    let first = row (get_or a.picks.now 0 0) in
-    let place = to_z-of_z w32 (pos c.loop-i.i) fit in
-    let same =
-    rw scaled_one at c.matches.ensures ∙ ap (λ (n : ℤ). same_row (row (get_or a.picks.now c.loop-i.i 0)) (shifted n first)) place in
-    sym (neighbours_step row a.picks.now c.loop-i.i first (omega arith) (sym same ∙ h)) ∙ c.loop-i.invariant.2
+tested : (c : After-matches) →
+    let picks = c.args.picks.now in
+    let row = row_at unknowns c.args.table.now in
+    c.matches.result && neighbours_from (c.loop-i.i + 1) (row (get_or picks 0 0)) (map row (drop (c.loop-i.i + 1) picks)) ≡ neighbours (map row picks)
+tested c =
+    let place = to_z_pos w32 c.loop-i.i (omega arith) in
+    sym (neighbours_step (row_at unknowns c.args.table.now) c.args.picks.now c.loop-i.i _ (omega arith) (sym (rw (scaled_one, place) at c.matches.ensures)))
+    ∙ c.loop-i.invariant
 
 pub returns-then-not-matches : goal.returns-then-not-matches
-returns-then-not-matches c = tested (goal.at.returns-then-not-matches c).After-matches (not-true _ c.if-not-matches.true-raw)
+returns-then-not-matches c = rw c.if-not-matches.true at (tested (goal.at.returns-then-not-matches c).After-matches)
 
 pub loop-i-preserved : goal.loop-i-preserved
-loop-i-preserved c = (omega arith, omega arith, tested (goal.at.loop-i-preserved c).After-matches (not-false _ c.if-not-matches.false-raw))
+loop-i-preserved c = rw c.if-not-matches.false at (tested (goal.at.loop-i-preserved c).After-matches)
 
 pub returns : goal.returns
-returns c =
-    let a = c.args in
-    sym (neighbours_over (row_at unknowns a.table.now) a.picks.now c.loop-i.i _ (omega arith)) ∙ c.loop-i.invariant.2
+returns c = sym (neighbours_over (row_at unknowns c.args.table.now) c.args.picks.now c.loop-i.i _ (omega arith)) ∙ c.loop-i.invariant

@@ -4,4 +4,4 @@ use Rattle.rows.proofs.FormCells.{row_at_lem}
 use Rattle.contents.proofs.cells.row.Goals as goal
 
 pub returns : goal.returns
-returns c = let a = c.args in row_at_lem unknowns a.table.now a.f
+returns c = rw c.from.ensures (row_at_lem unknowns c.args.table.now c.args.f)

@@ -11,9 +11,7 @@ use Rattle.ledger.specs.Apply.{finding}
 use Rattle.ledger.proofs.Findings.{pass→passed}
 use Rattle.session.specs.declared.state.Session.{Session}
 use Rattle.session.specs.declared.answers.Refusal.{Refusal}
-use Rattle.session.specs.declared.answers.Start.TheVariants.{Started, Refused}
-use Rattle.session.specs.declared.answers.Verdict.{Verdict}
-use Rattle.session.specs.declared.answers.Verdict.TheVariants.{Pass, Fail}
+use Rattle.std.specs.Prelude.{Result, Ok, Err}
 use Rattle.session.specs.Limits.{form_table, pool_table, line_table}
 use Rattle.session.specs.Cells.{Tables, tables, excess, with_excess, fresh_session}
 use Rattle.session.specs.Parts.{Long}
@@ -25,21 +23,21 @@ pub sizes_long : (n : ℕ) (t : Tables) → Passed (sizes n t) → Long n t
 unfolding sizes
 sizes_long n t p = record { form_room = leb→le _ _ p.0; pool_room = leb→le _ _ p.1.0; line_room = leb→le _ _ p.1.1.0 }
 
-module _ (n : ℕ) (t : Tables) (v : Verdict) (found : finding_of v ≡ finding (sizes n t)) where
-  pub passed→long : v ≡ Pass → Long n t
+module _ (n : ℕ) (t : Tables) (v : Result (Unit {0}) Refusal) (found : finding_of v ≡ finding (sizes n t)) where
+  pub passed→long : v ≡ Ok tt → Long n t
   passed→long e = sizes_long n t (pass→passed (sizes n t) (sym found ∙ ap finding_of e))
 
   module _ (s : Session) (fresh : s ≡ fresh_session) where
-    pub start_refused : (why : Refusal) → v ≡ Fail why → beginning_of (record { session = s; start = Refused why }) t ≡ start n t
+    pub start_refused : (why : Refusal) → v ≡ Err why → beginning_of (record { session = s; start = Err why }) t ≡ start n t
     unfolding start
     start_refused why e = rw (← found, e, fresh)
 
     -- the named cells came back as zeros
-    pub start_passed : (f : List ℤ) (p l : List ℕ) → v ≡ Pass
+    pub start_passed : (f : List ℤ) (p l : List ℕ) → v ≡ Ok tt
         → f ≡ replicate (length (take (form_table n) t.forms)) (pos 0)
         → p ≡ replicate (length (take pool_table t.pool)) 0
         → l ≡ replicate (length (take line_table t.lines)) 0
-        → beginning_of (record { session = s; start = Started }) (with_excess (tables f p l) (excess n t)) ≡ start n t
+        → beginning_of (record { session = s; start = Ok tt }) (with_excess (tables f p l) (excess n t)) ≡ start n t
     unfolding start
     start_passed f p l e i j k =
         let h = passed→long e in

@@ -1,13 +1,10 @@
 -- What the calls start and standing do: the answer, the session and every lent cell afterwards, for every input.
-use Rattle.std.specs.Prelude.{◌≡◌, ◌++◌, ℕ, pos, replicate}
+use Rattle.std.specs.Prelude.{◌≡◌, ◌++◌, ℕ, pos, replicate, Result, Ok, Err, Option, Some, None}
 use Rattle.rows.specs.Limits.{unknowns}
 use Rattle.ledger.specs.Apply.{Finding, pass, fail, finding}
 use Rattle.ledger.specs.Standing as ledger
 use Rattle.session.specs.declared.state.Session.{Session}
-use Rattle.session.specs.declared.answers.Start.{Start}
-use Rattle.session.specs.declared.answers.Start.TheVariants as Beginnings
-use Rattle.session.specs.declared.answers.Standing.{Standing}
-use Rattle.session.specs.declared.answers.Standing.TheVariants as Standings
+use Rattle.session.specs.declared.answers.Refusal.{Refusal}
 use Rattle.session.specs.declared.start.Begun.{Begun}
 use Rattle.session.specs.Limits.{form_table, pool_table, line_table}
 use Rattle.session.specs.Cells.{Tables, tables, named, excess, with_excess, fresh_session, ledger_of}
@@ -42,9 +39,9 @@ unfolding sizes finding
 start n t = begun_by (finding (sizes n t)) n t
 
 -- what the code gives, in these terms
-abbrev pub start_of : Start → Started
-start_of Beginnings.Started = started
-start_of (Beginnings.Refused r) = not_started (number_of r)
+abbrev pub start_of : Result (Unit {0}) Refusal → Started
+start_of (Ok _) = started
+start_of (Err r) = not_started (number_of r)
 
 abbrev pub beginning_of : Begun → Tables → Beginning
 beginning_of b t = record { answer = start_of b.start; session = b.session; tables = t }
@@ -67,11 +64,14 @@ unfoldable pub standing : ℕ → Session → Tables → Stands
 unfolding sizes order finding ledger_of
 standing n s t = stands_by (entry n s t) n s t
 
-abbrev pub stands_of : Standing → Stands
-stands_of (Standings.Refuted i) = stands (ledger.refuted i)
-stands_of Standings.NotRefuted = stands ledger.not_refuted
-stands_of (Standings.Refused r) = no_standing (number_of r)
+abbrev pub standing_of : Option ℕ → ledger.Standing
+standing_of (Some i) = ledger.refuted i
+standing_of None = ledger.not_refuted
+
+abbrev pub stands_of : Result (Option ℕ) Refusal → Stands
+stands_of (Ok found) = stands (standing_of found)
+stands_of (Err r) = no_standing (number_of r)
 
 -- standing, given s and lent t to read, answers r
-abbrev pub Tells : Session → Tables → Standing → Type 0
+abbrev pub Tells : Session → Tables → Result (Option ℕ) Refusal → Type 0
 Tells s t r = stands_of r ≡ standing unknowns s t

@@ -1,32 +1,30 @@
 // Setting lent cells to 0.
-ghost use Rattle.std.specs.Prelude.{◌≡◌, pos, length, replicate};
+ghost use Rattle.std.specs.Prelude.{◌≡◌, length, replicate};
 
 // The most cells that are cleared at once.
 const PART: usize = 480;
 
-// A long part is cleared half by half.
-pub fn clear_forms(cells: &mut [i32])
-    ensures { cells.new ≡ replicate (length cells.old) (pos 0) }
+// Every cell becomes zero. Most parts that are freed are empty, and take no call.
+pub fn clear<T: Copy>(cells: &mut [T], zero: T)
+    ensures { cells.new ≡ replicate (length cells.old) zero }
 {
-    if PART < cells.len() {
-        let half = cells.len() / 2;
-        clear_forms(&mut cells[0..half]);
-        clear_forms(&mut cells[half..]);
-        return;
-    }
-    let mut i: usize = 0;
-    while i < cells.len() {
-        cells[i] = 0;
-        i += 1;
+    if 0 < cells.len() {
+        clear_part(cells, zero);
     }
 }
 
-pub fn clear_numbers(cells: &mut [u16])
-    ensures { cells.new ≡ replicate (length cells.old) 0 }
+// A long part is cleared half by half.
+#[tactic(auto, using(crate::proofs::Filling::filling))]
+fn clear_part<T: Copy>(cells: &mut [T], zero: T)
+    ensures { cells.new ≡ replicate (length cells.old) zero }
 {
-    let mut i: usize = 0;
-    while i < cells.len() {
-        cells[i] = 0;
-        i += 1;
+    if PART < cells.len() {
+        let (front, back) = cells.split_at_mut(cells.len() / 2);
+        clear_part(front, zero);
+        clear_part(back, zero);
+        return;
+    }
+    for cell in cells.iter_mut() {
+        *cell = zero;
     }
 }

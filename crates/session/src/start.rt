@@ -7,46 +7,45 @@ ghost use Rattle.session.specs.InOrder.{sizes};
 ghost use Rattle.session.specs.Answers.{finding_of};
 ghost use Rattle.ledger.specs.Apply.{finding};
 
-use crate::answers::{Refusal, Start, Verdict};
+use crate::answers::Refusal;
 use crate::state::Session;
 
+// The fresh session, and whether the tables are 0 throughout or the start was refused.
 #[derive(Clone, Copy)]
 pub struct Begun {
     pub session: Session,
-    pub start: Start,
+    pub start: Result<(), Refusal>,
 }
 
 // Whether the tables have their named cells.
-pub fn sized(forms: &[i32], pool: &[u16], lines: &[u16]) -> Verdict
+pub fn sized(forms: &[i32], pool: &[u16], lines: &[u16]) -> Result<(), Refusal>
     ensures { finding_of result ≡ finding (sizes unknowns (tables forms.now pool.now lines.now)) }
 {
     if forms.len() < Session::FORM_TABLE {
-        return Verdict::Fail(Refusal::ShortTable);
+        return Err(Refusal::ShortTable);
     }
     if pool.len() < Session::POOL {
-        return Verdict::Fail(Refusal::ShortTable);
+        return Err(Refusal::ShortTable);
     }
     if lines.len() < Session::LINE_TABLE {
-        return Verdict::Fail(Refusal::ShortTable);
+        return Err(Refusal::ShortTable);
     }
-    Verdict::Pass
+    Ok(())
 }
 
-// A fresh session over tables that are 0 throughout; of short tables nothing is written.
+// A fresh session over tables that are 0 throughout; of short tables nothing is written. The three tables stay three parameters, here and in every
+// call, as C lends them: a struct of three `&mut` would owe in each contract that each is still the reference that it was.
 pub fn start(forms: &mut [i32], pool: &mut [u16], lines: &mut [u16]) -> Begun
     ensures { Starts (tables forms.old pool.old lines.old) result (tables forms.new pool.new lines.new) }
 {
-    if let Verdict::Fail(why) = sized(forms, pool, lines) {
-        return Begun {
-            session: Session::fresh(),
-            start: Start::Refused(why),
-        };
+    let session = Session::fresh();
+    if let Err(why) = sized(forms, pool, lines) {
+        let start = Err(why);
+        return Begun { session, start };
     }
-    crate::clear::clear_forms(&mut forms[0..Session::FORM_TABLE]);
-    crate::clear::clear_numbers(&mut pool[0..Session::POOL]);
-    crate::clear::clear_numbers(&mut lines[0..Session::LINE_TABLE]);
-    Begun {
-        session: Session::fresh(),
-        start: Start::Started,
-    }
+    crate::clear::clear(&mut forms[0..Session::FORM_TABLE], 0);
+    crate::clear::clear(&mut pool[0..Session::POOL], 0);
+    crate::clear::clear(&mut lines[0..Session::LINE_TABLE], 0);
+    let start = Ok(());
+    Begun { session, start }
 }

@@ -4,7 +4,7 @@ ghost use Rattle.session.specs.Cells.{fresh_session, counts_of};
 ghost use Rattle.session.specs.Parts.{all_limits};
 
 // The counts as a level opened.
-#[derive(Clone, Copy)]
+#[derive(Clone, Copy, PartialEq, Eq, Default)]
 pub struct Mark {
     pub forms: u16,
     pub lines: u16,
@@ -27,8 +27,9 @@ pub struct Limits {
     pub line: usize,
 }
 
-// How much of each table is in use, and the marks of the open levels.
-#[derive(Clone, Copy)]
+// How much of each table is in use, and the marks of the open levels: an array beside their count, since nothing is taken from a heap, and since the
+// marks above the count are part of what `withdrawal_exact` compares.
+#[derive(Clone, Copy, PartialEq, Eq)]
 pub struct Session {
     pub forms: u16,
     pub lines: u16,
@@ -106,11 +107,7 @@ impl Session {
             lines: 0,
             literals: 0,
             open: 0,
-            marks: [Mark {
-                forms: 0,
-                lines: 0,
-                literals: 0,
-            }; Session::MOST_LEVELS],
+            marks: [Mark::default(); Session::MOST_LEVELS],
         }
     }
 

@@ -10,28 +10,28 @@ use Rattle.session.proofs.start.start.Goals.{In_default, Start}
 abbrev lent : Start → Tables
 lent c = tables c.args.forms.now c.args.pool.now c.args.lines.now
 
-pub returns-in-Fail : goal.returns-in-Fail
-returns-in-Fail c =
-    start_refused unknowns (lent (goal.at.returns-in-Fail c).Start) _ c.sized.ensures
-    _ c.fresh.ensures c.in-Fail.why c.in-Fail.is
+pub returns-in-Err : goal.returns-in-Err
+returns-in-Err c =
+    start_refused unknowns (lent (goal.at.returns-in-Err c).Start) _ c.sized.ensures
+    _ c.fresh-session.ensures c.in-Err.why c.in-Err.is
 
 -- so the parts that are cleared exist
 long_then : (c : In_default) → Long unknowns (lent (goal.at.In_default c).Start)
 long_then c = passed→long unknowns _ _ c.sized.ensures c.in_default.is
 
-pub slice_bounds-clear_forms-end : goal.slice_bounds-clear_forms-end
-slice_bounds-clear_forms-end c = (long_then c).form_room
+pub slice_bounds-clear-end : goal.slice_bounds-clear-end
+slice_bounds-clear-end c = (long_then c).form_room
 
-pub slice_bounds-clear_numbers-end : goal.slice_bounds-clear_numbers-end
-slice_bounds-clear_numbers-end c = (long_then (goal.at.slice_bounds-clear_numbers-end c).In_default).pool_room
+pub slice_bounds-clear-end-2 : goal.slice_bounds-clear-end-2
+slice_bounds-clear-end-2 c = (long_then (goal.at.slice_bounds-clear-end-2 c).In_default).pool_room
 
-pub slice_bounds-clear_numbers-end-2 : goal.slice_bounds-clear_numbers-end-2
-slice_bounds-clear_numbers-end-2 c = (long_then (goal.at.slice_bounds-clear_numbers-end-2 c).In_default).line_room
+pub slice_bounds-clear-end-3 : goal.slice_bounds-clear-end-3
+slice_bounds-clear-end-3 c = (long_then (goal.at.slice_bounds-clear-end-3 c).In_default).line_room
 
 pub returns : goal.returns
 returns c =
     start_passed unknowns (lent (goal.at.returns c).Start) _ c.sized.ensures
-    _ c.fresh-2.ensures _ _ _ c.in_default.is
-    c.clear_forms.ensures
-    c.clear_numbers.ensures
-    c.clear_numbers-2.ensures
+    _ c.fresh-session.ensures _ _ _ c.in_default.is
+    c.clear.ensures
+    c.clear-2.ensures
+    c.clear-3.ensures

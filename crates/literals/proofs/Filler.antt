@@ -6,6 +6,7 @@ use native.Mathlib.Nat.{sub-zero}
 use native.Mathlib.Numerals.{add-one}
 use native.Mathlib.Omega.{arith}
 use lib.ListN.{length, take, drop, set, length-append, length-set, take-append-drop}
+use borrow.Rule.Slice.PartMut.{put_mid}
 use lib.Seq.{length-take-le, take-suc-set, take-append_seam, drop-set-lt, drop-drop}
 
 -- n cells of out, which was out₀, are written, and `rest` is still to come
@@ -44,9 +45,11 @@ module _ {A : Type 0} (out out₀ rest whole : List A) (n : ℕ) (w : Written ou
       let t : take n out ≡ whole = simp (e, append-nil) at w.made in
       sym (take-append-drop n out) ∙ simp (t, w.left) (rw m)
 
--- a loop behind another goes on with the same writing, whatever was there first
-abbrev pub Carries : {A : Type 0} → List A → List A → ℕ → List A → List A → ℕ → Type 0
-Carries {A} out rest n out' rest' n' = (out₀ whole : List A) → Written out out₀ rest whole n → Written out' out₀ rest' whole n'
+  -- the rest is copied at once
+  pub write_rest : (xs : List A) (k : ℕ) → rest ≡ xs → k ≡ length xs → put_mid n k out xs ≡ whole ++ drop (length whole) out₀
+  write_rest xs k e d =
+      let m : length whole ≡ n + k = omega (arith, to_come, ap length e) in
+      sym (append_assoc (take n out) xs (drop k (drop n out))) ∙ rw (m, ← w.made, e, w.left, ← drop-drop k n out₀)
 
 -- the k cells in front, which are written, are read back
 pub front : {A : Type 0} (xs more out : List A) (k : ℕ) → k ≡ length xs → out ≡ xs ++ more → (k ≤ length out) × (take (k - 0) out ≡ xs)

@@ -1,2 +1,1 @@
-pub mod SignedLaws
 pub mod FilledLaws

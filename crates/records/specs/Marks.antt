@@ -1,6 +1,7 @@
 -- What the code's marks and layouts are, in the ledger's terms.
-use Rattle.std.specs.Prelude.{◌≡◌, List, ℕ, ◌≤◌, length, take}
+use Rattle.std.specs.Prelude.{◌≡◌, true, false, cond, Option, None, Some, Result, Ok, Err, List, ℕ, ◌<◌, ◌≤◌, length, take}
 use Rattle.ledger.specs.Record as ledger
+use Rattle.ledger.specs.Checks.{count_in}
 use Rattle.ledger.specs.Apply.{pass, fail, finding}
 use Rattle.ledger.specs.Bytes as bytes
 use Rattle.ledger.specs.Split.{front}
@@ -10,13 +11,10 @@ use Rattle.records.specs.declared.marks.RecordMark.{RecordMark}
 use Rattle.records.specs.declared.marks.RecordMark.TheVariants.{Rule, Op, Wd}
 use Rattle.records.specs.declared.marks.RuleMark.{RuleMark}
 use Rattle.records.specs.declared.marks.RuleMark.TheVariants.{Fm, Pm, Rs, Fk, To, Tr, Eq, Ti, Wk, Cl, Ar, Lf, Su, Sd}
-use Rattle.records.specs.declared.marks.Bearing.{Bearing}
-use Rattle.records.specs.declared.marks.Bearing.TheVariants.{Unknown, Bears}
+use Rattle.session.specs.declared.answers.Refusal.{Refusal}
+use Rattle.records.specs.declared.marks.Counting.{Counting}
 use Rattle.records.specs.declared.marks.Layout.{Layout}
-use Rattle.records.specs.declared.shape.Shape.{Shape}
-use Rattle.records.specs.declared.shape.Shape.TheVariants as Shapes
 use Rattle.records.specs.declared.shape.Front.{Front}
-use Rattle.records.specs.declared.shape.Front.TheVariants as Fronts
 
 abbrev pub rule_mark_of : RuleMark → ledger.RuleMark
 rule_mark_of Fm = ledger.fm
@@ -39,22 +37,18 @@ record_mark_of (Rule m) = ledger.of_rule (rule_mark_of m)
 record_mark_of Op = ledger.op
 record_mark_of Wd = ledger.wd
 
-abbrev pub bearing_of : Bearing → bytes.Bearing
-bearing_of Unknown = bytes.unknown
-bearing_of (Bears m) = bytes.bears (record_mark_of m)
+abbrev pub bearing_of : Option RecordMark → bytes.Bearing
+bearing_of None = bytes.unknown
+bearing_of (Some m) = bytes.bears (record_mark_of m)
+
+-- the layout with these letters and bytes, and with this count or none
+abbrev pub with_counting : ℕ → ℕ → ℕ → Option Counting → ledger.Layout
+with_counting a b n None = ledger.fixed a b n
+with_counting a b n (Some c) =
+    record { first = a; second = b; counted = true; place = c.place; least = c.least; most = c.most; bytes = n; each = c.each }
 
 abbrev pub layout_of : Layout → ledger.Layout
-layout_of l =
-    record {
-      first = l.first;
-      second = l.second;
-      counted = l.counted;
-      place = l.place;
-      least = l.least;
-      most = l.most;
-      bytes = l.bytes;
-      each = l.each;
-    }
+layout_of l = with_counting l.first l.second l.bytes l.counting
 
 -- bytes of the right shape that bear the mark
 pub record OfMark (b : List ℕ) (m : ledger.RecordMark) : Type 0 where
@@ -62,9 +56,25 @@ pub record OfMark (b : List ℕ) (m : ledger.RecordMark) : Type 0 where
   pub bearing : bytes.mark_of b ≡ bytes.bears m
 
 -- r is what the shape of the bytes b is found to be, and where it is right, the mark that they bear
-abbrev pub Shaped : List ℕ → Shape → Type 0
-Shaped b (Shapes.Wrong why) = finding (bytes.shape b) ≡ fail (number_of why)
-Shaped b (Shapes.Right m) = OfMark b (record_mark_of m)
+abbrev pub Shaped : List ℕ → Result RecordMark Refusal → Type 0
+Shaped b (Err why) = finding (bytes.shape b) ≡ fail (number_of why)
+Shaped b (Ok m) = OfMark b (record_mark_of m)
+
+-- the record that begins the bytes b and bears the mark has the count n, within its range; or it counts nothing, and n is 0
+pub record Counts (b : List ℕ) (m : ledger.RecordMark) (n : ℕ) : Type 0 where
+  pub there : (ledger.layout m).counted ≡ true → (ledger.layout m).place < length b
+  pub inside : (ledger.layout m).counted ≡ true → count_in m (bytes.count_from m b) ≡ true
+  pub is : n ≡ cond (ledger.layout m).counted (bytes.count_from m b) 0
+
+-- it has a count, which is missing, 3, or outside its range, 5
+pub data NoCount (b : List ℕ) (m : ledger.RecordMark) : ℕ → Type 0 where
+  missing : (ledger.layout m).counted ≡ true → length b ≤ (ledger.layout m).place → NoCount b m 3
+  outside : (ledger.layout m).counted ≡ true → (ledger.layout m).place < length b → count_in m (bytes.count_from m b) ≡ false → NoCount b m 5
+
+-- r is the count of the record that begins the bytes b and bears the mark, or why it has none
+abbrev pub Counted : List ℕ → ledger.RecordMark → Result ℕ Refusal → Type 0
+Counted b m (Err why) = NoCount b m (number_of why)
+Counted b m (Ok n) = Counts b m n
 
 -- the front record of the bytes b bears the mark, and has so many bytes of them
 pub record Whole (b : List ℕ) (m : ledger.RecordMark) (size : ℕ) : Type 0 where
@@ -73,6 +83,6 @@ pub record Whole (b : List ℕ) (m : ledger.RecordMark) (size : ℕ) : Type 0 wh
   pub record_of : OfMark (take size b) m
 
 -- r is the front record of the bytes b
-abbrev pub Fronted : List ℕ → Front → Type 0
-Fronted b (Fronts.Wrong why) = Misshapen b (number_of why)
-Fronted b (Fronts.Record m size) = Whole b (record_mark_of m) size
+abbrev pub Fronted : List ℕ → Result Front Refusal → Type 0
+Fronted b (Err why) = Misshapen b (number_of why)
+Fronted b (Ok f) = Whole b (record_mark_of f.mark) f.size

@@ -1,13 +1,13 @@
 // The marks of records, and in one table how a record of each looks in bytes.
-ghost use Rattle.std.specs.Prelude.{◌≡◌, ◌<◌, ◌≤◌, length, take, drop};
-ghost use Rattle.ledger.specs.Record.{rule_layout, layout, marks};
+ghost use Rattle.std.specs.Prelude.{◌≡◌, ◌<◌, ◌≤◌, length, map};
+ghost use Rattle.ledger.specs.Record.{rule_layout, layout};
 ghost use Rattle.ledger.specs.Bytes.{has_letters, first_of, mark_of};
 ghost use Rattle.records.specs.Marks.{rule_mark_of, record_mark_of, bearing_of, layout_of};
 
 use session::state::Session;
 
 // The marks of the rules.
-#[derive(Clone, Copy)]
+#[derive(Clone, Copy, PartialEq, Eq)]
 pub enum RuleMark {
     Fm,
     Pm,
@@ -25,34 +25,32 @@ pub enum RuleMark {
     Sd,
 }
 
-#[derive(Clone, Copy)]
+#[derive(Clone, Copy, PartialEq, Eq)]
 pub enum RecordMark {
     Rule(RuleMark),
     Op,
     Wd,
 }
 
-#[derive(Clone, Copy)]
-pub enum Bearing {
-    Unknown,
-    Bears(RecordMark),
-}
-
 // The place right behind the two letters.
 pub const BEHIND_LETTERS: usize = 2;
 
-// Two letters; a count with its place and its range, or none; and the bytes: all of them at count 0, and how many more for each that is
-// counted.
-#[derive(Clone, Copy)]
-pub struct Layout {
-    pub first: u8,
-    pub second: u8,
-    pub counted: bool,
+// A count: its place, its range, and how many bytes more for each that is counted.
+#[derive(Clone, Copy, PartialEq, Eq)]
+pub struct Counting {
     pub place: usize,
     pub least: u8,
     pub most: usize,
-    pub bytes: usize,
     pub each: usize,
+}
+
+// Two letters; the bytes, all of them at count 0; and the count, or none.
+#[derive(Clone, Copy, PartialEq, Eq)]
+pub struct Layout {
+    pub first: u8,
+    pub second: u8,
+    pub bytes: usize,
+    pub counting: Option<Counting>,
 }
 
 fn fixed(first: u8, second: u8, bytes: usize) -> Layout
@@ -61,28 +59,25 @@ fn fixed(first: u8, second: u8, bytes: usize) -> Layout
     Layout {
         first,
         second,
-        counted: false,
-        place: 0,
-        least: 0,
-        most: 0,
         bytes,
-        each: 0,
+        counting: None,
     }
 }
 
-fn counting(first: u8, second: u8, place: usize, least: u8, most: usize, each: usize) -> Layout
+fn counted(first: u8, second: u8, place: usize, least: u8, most: usize, each: usize) -> Layout
     requires { place < 256 }
     ensures { layout_of result ≡ Rattle.ledger.specs.Record.counting first second place least most each }
 {
     Layout {
         first,
         second,
-        counted: true,
-        place,
-        least,
-        most,
         bytes: place + 1,
-        each,
+        counting: Some(Counting {
+            place,
+            least,
+            most,
+            each,
+        }),
     }
 }
 
@@ -92,16 +87,16 @@ pub fn rule_layout(m: RuleMark) -> Layout
 {
     match m {
         RuleMark::Fm => fixed(b'F', b'M', 57),
-        RuleMark::Pm => counting(b'P', b'M', BEHIND_LETTERS, 0, Session::LONGEST_LINE, 2),
+        RuleMark::Pm => counted(b'P', b'M', BEHIND_LETTERS, 0, Session::LONGEST_LINE, 2),
         RuleMark::Rs => fixed(b'R', b'S', 8),
-        RuleMark::Fk => counting(b'F', b'K', BEHIND_LETTERS, 1, Session::MOST_TERMS, 6),
+        RuleMark::Fk => counted(b'F', b'K', BEHIND_LETTERS, 1, Session::MOST_TERMS, 6),
         RuleMark::To => fixed(b'T', b'O', 6),
         RuleMark::Tr => fixed(b'T', b'R', 8),
         RuleMark::Eq => fixed(b'E', b'Q', 6),
         RuleMark::Ti => fixed(b'T', b'I', 10),
         RuleMark::Wk => fixed(b'W', b'K', 6),
-        RuleMark::Cl => counting(b'C', b'L', BEHIND_LETTERS, 1, Session::MOST_TERMS, 6),
-        RuleMark::Ar => counting(b'A', b'R', BEHIND_LETTERS, 1, Session::LONGEST_LINE, 2),
+        RuleMark::Cl => counted(b'C', b'L', BEHIND_LETTERS, 1, Session::MOST_TERMS, 6),
+        RuleMark::Ar => counted(b'A', b'R', BEHIND_LETTERS, 1, Session::LONGEST_LINE, 2),
         RuleMark::Lf => fixed(b'L', b'F', 6),
         RuleMark::Su => fixed(b'S', b'U', 8),
         RuleMark::Sd => fixed(b'S', b'D', 8),
@@ -124,73 +119,45 @@ fn has_letters(bytes: &[u8], m: RecordMark) -> bool
     ensures { result ≡ has_letters bytes.now (record_mark_of m) }
 {
     let l = layout_of(m);
-    if bytes[0] == l.first {
-        return bytes[1] == l.second;
-    }
-    false
+    bytes[0] == l.first && bytes[1] == l.second
 }
 
-// The mark of the table's first half that the bytes begin with. Of a walk through the whole table the compiler makes a loop, which is slow;
-// of one through a half it makes comparisons.
-fn mark_in_first_half(bytes: &[u8]) -> Bearing
+// The first of the marks that the bytes begin with. Always inlined: only so are the marks constants that the bytes are compared with.
+#[inline(always)]
+fn mark_among(bytes: &[u8], marks: &[RecordMark]) -> Option<RecordMark>
     requires { 2 ≤ length bytes.now }
-    ensures { bearing_of result ≡ first_of bytes.now (take 8 marks) }
+    ensures { bearing_of result ≡ first_of bytes.now (map record_mark_of marks.now) }
 {
-    let marks = [
-        RecordMark::Rule(RuleMark::Fm),
-        RecordMark::Rule(RuleMark::Pm),
-        RecordMark::Rule(RuleMark::Rs),
-        RecordMark::Rule(RuleMark::Fk),
-        RecordMark::Rule(RuleMark::To),
-        RecordMark::Rule(RuleMark::Tr),
-        RecordMark::Rule(RuleMark::Eq),
-        RecordMark::Rule(RuleMark::Ti),
-    ];
-    let mut i: usize = 0;
-    while i < marks.len() {
-        let m = marks[i];
-        if has_letters(bytes, m) {
-            return Bearing::Bears(m);
-        }
-        i += 1;
-    }
-    Bearing::Unknown
+    marks.iter().copied().find(|&m| has_letters(bytes, m))
 }
 
-// And of its second half.
-fn mark_in_second_half(bytes: &[u8]) -> Bearing
-    requires { 2 ≤ length bytes.now }
-    ensures { bearing_of result ≡ first_of bytes.now (drop 8 marks) }
-{
-    let marks = [
-        RecordMark::Rule(RuleMark::Wk),
-        RecordMark::Rule(RuleMark::Cl),
-        RecordMark::Rule(RuleMark::Ar),
-        RecordMark::Rule(RuleMark::Lf),
-        RecordMark::Rule(RuleMark::Su),
-        RecordMark::Rule(RuleMark::Sd),
-        RecordMark::Op,
-        RecordMark::Wd,
-    ];
-    let mut i: usize = 0;
-    while i < marks.len() {
-        let m = marks[i];
-        if has_letters(bytes, m) {
-            return Bearing::Bears(m);
-        }
-        i += 1;
-    }
-    Bearing::Unknown
-}
+// The table in two halves: of a walk through all of it the compiler makes one comparison after the other; of these, a choice by the first letter.
+const FIRST_HALF: [RecordMark; 8] = [
+    RecordMark::Rule(RuleMark::Fm),
+    RecordMark::Rule(RuleMark::Pm),
+    RecordMark::Rule(RuleMark::Rs),
+    RecordMark::Rule(RuleMark::Fk),
+    RecordMark::Rule(RuleMark::To),
+    RecordMark::Rule(RuleMark::Tr),
+    RecordMark::Rule(RuleMark::Eq),
+    RecordMark::Rule(RuleMark::Ti),
+];
+
+const SECOND_HALF: [RecordMark; 8] = [
+    RecordMark::Rule(RuleMark::Wk),
+    RecordMark::Rule(RuleMark::Cl),
+    RecordMark::Rule(RuleMark::Ar),
+    RecordMark::Rule(RuleMark::Lf),
+    RecordMark::Rule(RuleMark::Su),
+    RecordMark::Rule(RuleMark::Sd),
+    RecordMark::Op,
+    RecordMark::Wd,
+];
 
 // The mark that the bytes begin with.
-pub fn mark_of(bytes: &[u8]) -> Bearing
+pub fn mark_of(bytes: &[u8]) -> Option<RecordMark>
     requires { 2 ≤ length bytes.now }
     ensures { bearing_of result ≡ mark_of bytes.now }
 {
-    let found = mark_in_first_half(bytes);
-    if let Bearing::Bears(m) = found {
-        return Bearing::Bears(m);
-    }
-    mark_in_second_half(bytes)
+    mark_among(bytes, &FIRST_HALF).or_else(|| mark_among(bytes, &SECOND_HALF))
 }

@@ -1,7 +1,0 @@
--- `byte_at` meets its contract.
-use mathlib.Core.Path.{sym}
-use lib.ListN.{get_or-eq_default}
-use Rattle.fields.proofs.numbers.byte_at.Goals as goal
-
-pub returns : goal.returns
-returns c = sym (get_or-eq_default c.args.bytes.now 0 c.if-i-bytes.false)

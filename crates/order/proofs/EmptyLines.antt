@@ -30,7 +30,7 @@ module _ (lines : List ℕ) (i n : ℕ) where
   next : i < n → n - i ≡ suc (n - (i + 1))
   next h = omega arith
 
-  pub empty_here : i < n → end_before lines (i + 1) ≡ end_before lines i → lowest_empty lines i (n - i) ≡ stands (refuted i)
+  pub empty_here : i < n → end_before lines (i + 1) ≡ end_before lines i → lowest_empty lines i (n - i) ≡ refuted i
   unfolding lowest_empty
   empty_here h e = rw (next h, eq-eqb _ _ e)
 
@@ -39,7 +39,7 @@ module _ (lines : List ℕ) (i n : ℕ) where
   unfolding lowest_empty
   not_here h e = rw (next h, ne_eqb _ _ e)
 
-  pub none_empty : n ≤ i → lowest_empty lines i (n - i) ≡ stands not_refuted
+  pub none_empty : n ≤ i → lowest_empty lines i (n - i) ≡ not_refuted
   unfolding lowest_empty
   none_empty h = let e : n - i ≡ 0 = omega arith in rw e
 
@@ -53,7 +53,7 @@ front (suc n) f = ap (λ l. l ++ (f (suc n) ∷ [])) (front n f)
 -- lines that are empty exactly where an end equals the one before
 same_lowest : (lines : List ℕ) (i n : ℕ) (f : ℕ → Line)
     → ((k : ℕ) → k < n → eqb (length (f k).literals) 0 ≡ eqb (end_before lines (suc (i + k))) (end_before lines (i + k)))
-    → lowest_empty lines i n ≡ stands (standing_from i (up_to n f))
+    → lowest_empty lines i n ≡ standing_from i (up_to n f)
 unfolding lowest_empty standing_from up_to
 same_lowest lines i zero f h = refl
 same_lowest lines i (suc n) f h =
@@ -61,8 +61,8 @@ same_lowest lines i (suc n) f h =
     (go (eqb (end_before lines (suc i)) (end_before lines i))
     (same_lowest lines (suc i) n (λ k. f (suc k)) (λ k l. let e : suc i + k ≡ i + suc k = omega arith in rw e (h (suc k) (omega arith)))))
   where
-    go : (b : Bool) → lowest_empty lines (suc i) n ≡ stands (standing_from (suc i) (up_to n (λ k. f (suc k))))
-        → cond b (stands (refuted i)) (lowest_empty lines (suc i) n) ≡ stands (cond b (refuted i) (standing_from (suc i) (up_to n (λ k. f (suc k)))))
+    go : (b : Bool) → lowest_empty lines (suc i) n ≡ standing_from (suc i) (up_to n (λ k. f (suc k)))
+        → cond b (refuted i) (lowest_empty lines (suc i) n) ≡ cond b (refuted i) (standing_from (suc i) (up_to n (λ k. f (suc k))))
     go true e = refl
     go false e = e
 
@@ -92,17 +92,18 @@ module _ (n : ℕ) (s : Session) (t : Tables) where
   unfolding standing ledger_of
   standing_passed e = ap (λ f. stands_by f n s t) e
 
-  pub lowest_empty_lem : entry n s t ≡ pass → lowest_empty t.lines 0 s.lines ≡ standing n s t
+  pub lowest_empty_lem : entry n s t ≡ pass → stands (lowest_empty t.lines 0 s.lines) ≡ standing n s t
   lowest_empty_lem e =
       let l = entry_long n s t e in
       let g = entry_clauses n s t e in
       let few_lines = g.few_lines in
       let cut = take line_table t.lines in
-      same_lowest t.lines 0 s.lines (line_at (named n t))
+      ap stands
+      (same_lowest t.lines 0 s.lines (line_at (named n t))
       (λ k h.
       let z : 0 + k ≡ k = omega arith in
       let r = rising cut (suc k) s.lines (omega arith) (λ i a b. g.rise i b) in
       rw z
       (empty_line (take pool_table t.pool) cut k (g.rise k h) (simp length-take (omega (arith, g.last, g.few_literals)))
-      ∙ ap₂ eqb (end_named t.lines (suc k) (omega arith)) (end_named t.lines k (omega arith))))
+      ∙ ap₂ eqb (end_named t.lines (suc k) (omega arith)) (end_named t.lines k (omega arith)))))
       ∙ sym (standing_passed e)

@@ -9,21 +9,17 @@ ghost use Rattle.order.specs.Levels.{Below, LevelGood, LevelsGood, Passable};
 
 use session::state::{Mark, Session};
 
-// Whether no count of a is above b's.
+// Whether no count of a is above b's. By hand: a derived order asks of the lines only where the forms are equal.
+#[tactic(auto, unfolding(session::specs::InOrder::not_above))]
 fn not_above(a: Mark, b: Mark) -> bool
     ensures { result ≡ not_above a b }
 {
-    if b.forms < a.forms {
-        return false;
-    }
-    if b.lines < a.lines {
-        return false;
-    }
-    a.literals <= b.literals
+    a.forms <= b.forms && a.lines <= b.lines && a.literals <= b.literals
 }
 
 // Whether a mark is right after the one below it: it neither falls nor exceeds the counts, it ends where its lines end,
 // and its lines name only its forms.
+#[tactic(auto, unfolding(session::specs::InOrder::not_above))]
 fn level_holds(pool: &[u16], lines: &[u16], here: Mark, low: Mark, m: Mark) -> bool
     requires { Below pool.now lines.now here low }
     ensures { Exactly result (LevelGood pool.now lines.now here low m) }
@@ -34,8 +30,7 @@ fn level_holds(pool: &[u16], lines: &[u16], here: Mark, low: Mark, m: Mark) -> b
     if !not_above(m, here) {
         return false;
     }
-    let k = m.lines as usize;
-    if session::lines::end_before(lines, k) != m.literals {
+    if session::lines::end_before(lines, m.lines as usize) != m.literals {
         return false;
     }
     walk::lines_hold(pool, lines, low, m)
@@ -46,8 +41,7 @@ fn edge_at(s: Session, i: usize) -> Mark
     requires { s.«open» ≤ most_levels }
     ensures { result ≡ edge s i }
 {
-    let open = s.open as usize;
-    if i < open {
+    if i < s.open as usize {
         return s.marks[i];
     }
     s.counts()
@@ -60,33 +54,15 @@ pub fn levels_hold(s: Session, pool: &[u16], lines: &[u16]) -> bool
 {
     let here = s.counts();
     let open = s.open as usize;
-    let mut low = Mark {
-        forms: 0,
-        lines: 0,
-        literals: 0,
-    };
-    let mut i: usize = 0;
-    while i <= open {
+    let mut low = Mark::default();
+    for i in 0..=open {
         let m = edge_at(s, i);
         if !level_holds(pool, lines, here, low, m) {
             return false;
         }
         low = m;
-        i += 1;
     }
     true
-}
-
-fn is_no_mark(m: Mark) -> bool
-    ensures { result ≡ is_no_mark m }
-{
-    if m.forms != 0 {
-        return false;
-    }
-    if m.lines != 0 {
-        return false;
-    }
-    m.literals == 0
 }
 
 // Whether the marks above the open levels are 0.
@@ -94,13 +70,8 @@ pub fn marks_clear(s: Session) -> bool
     requires { s.«open» ≤ most_levels }
     ensures { result ≡ all is_no_mark (drop s.«open» s.marks) }
 {
-    let mut i = s.open as usize;
-    while i < Session::MOST_LEVELS {
-        let m = s.marks[i];
-        if !is_no_mark(m) {
-            return false;
-        }
-        i += 1;
-    }
-    true
+    s.marks
+        .iter()
+        .skip(s.open as usize)
+        .all(|&m| m == Mark::default())
 }

@@ -16,23 +16,17 @@ ghost use Rattle.session.specs.Calls.{entry};
 ghost use Rattle.walk.specs.Walk.{Exactly};
 ghost use Rattle.order.specs.Levels.{Counted};
 
-use session::answers::{Refusal, Verdict};
+use session::answers::Refusal;
 use session::state::Session;
 
 // Whether the counts are within limits.
 fn counts_hold(s: Session) -> bool
     ensures { Exactly result (Counted s) }
 {
-    if Session::MOST_FORMS < s.forms as usize {
-        return false;
-    }
-    if Session::MOST_LINES < s.lines as usize {
-        return false;
-    }
-    if Session::MOST_LITERALS < s.literals as usize {
-        return false;
-    }
-    s.open as usize <= Session::MOST_LEVELS
+    s.forms as usize <= Session::MOST_FORMS
+        && s.lines as usize <= Session::MOST_LINES
+        && s.literals as usize <= Session::MOST_LITERALS
+        && s.open as usize <= Session::MOST_LEVELS
 }
 
 // The whole test, over the named cells.
@@ -53,16 +47,15 @@ fn ordered(s: Session, forms: &[i32], pool: &[u16], lines: &[u16]) -> bool
     if !crate::levels::marks_clear(s) {
         return false;
     }
-    let cells = Session::FORM_CELLS * count;
-    if !crate::cells::forms_clear(forms, cells) {
+    if !forms[Session::FORM_CELLS * count..].iter().all(|&x| x == 0) {
         return false;
     }
-    let literals = s.literals as usize;
-    if !crate::cells::numbers_clear(pool, literals) {
+    if !pool[s.literals as usize..].iter().all(|&x| x == 0) {
         return false;
     }
-    let ends = Session::LINE_CELLS * (s.lines as usize);
-    crate::cells::numbers_clear(lines, ends)
+    lines[Session::LINE_CELLS * (s.lines as usize)..]
+        .iter()
+        .all(|&x| x == 0)
 }
 
 // Whether session and tables are in order; of longer tables the excess is not read.
@@ -79,15 +72,12 @@ fn in_order(s: Session, forms: &[i32], pool: &[u16], lines: &[u16]) -> bool
 }
 
 // What every call tests first: the sizes of the tables, and then that session and tables are in order.
-pub fn entered(s: Session, forms: &[i32], pool: &[u16], lines: &[u16]) -> Verdict
+pub fn entered(s: Session, forms: &[i32], pool: &[u16], lines: &[u16]) -> Result<(), Refusal>
     ensures { finding_of result ≡ entry unknowns s (tables forms.now pool.now lines.now) }
 {
-    let size = session::start::sized(forms, pool, lines);
-    if let Verdict::Fail(why) = size {
-        return Verdict::Fail(why);
-    }
+    session::start::sized(forms, pool, lines)?;
     if in_order(s, forms, pool, lines) {
-        return Verdict::Pass;
+        return Ok(());
     }
-    Verdict::Fail(Refusal::NotInOrder)
+    Err(Refusal::NotInOrder)
 }

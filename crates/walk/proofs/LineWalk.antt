@@ -1,21 +1,19 @@
 -- A line's literals one at a time, and the lines one at a time, as the two loops of the walk test them.
-use mathlib.Core.Path.{◌≡◌, sym, ap, ◌∙◌, subst}
-use mathlib.Core.Bool.{Bool, true, false, ◌&&◌}
+use mathlib.Core.Path.{◌≡◌, refl, sym, ◌∙◌, subst}
+use mathlib.Core.Bool.{Bool, true, false, ◌&&◌, and-false}
 use mathlib.Core.List.{List, [], ◌∷◌}
 use Prim.Native.Nat.{ℕ, zero, suc, ◌+◌, ◌*◌, ◌-◌, ◌≤◌, ◌<◌}
 use native.Mathlib.Omega.{arith}
 use native.Mathlib.Numerals.{add-one}
-use native.Mathlib.Nat.{sub-zero}
 use native.Mathlib.Decide.{dec_le, dec_lt}
 use borrow.Author.Tests.{lt-leb, le-leb, lt-ltb, le-ltb}
 use lib.Dec.{T, leb, ltb, leb→le, le→leb, ltb→lt, lt→ltb}
-use lib.ListN.{length, get_or, take, drop, length-take}
-use lib.Seq.{slice, slice_empty, slice-cons, take-nil}
-use Rattle.ints.proofs.Bools.{T_and, and_T, true→T}
+use lib.ListN.{length, get_or, take, drop, length-take, drop_of_length-le}
+use lib.Seq.{drop-cons}
+use Rattle.ints.proofs.Bools.{T_and, and_T, T-same, true→T}
 use Rattle.ledger.specs.Limits.{longest_line}
 use Rattle.ledger.specs.Ledger.{premise, derived}
 use Rattle.ledger.specs.Literals.{below, names_below, ascending_from, ascending}
-use Rattle.ledger.specs.Ledger.{is_origin}
 use Rattle.session.specs.Limits.{line_cells}
 use Rattle.session.specs.Cells.{end_before, origin_at, literals_at}
 use Rattle.walk.specs.Walk.{LineGood}
@@ -27,95 +25,74 @@ unfoldable pub literals_hold : ℕ → ℕ → List ℕ → Bool
 literals_hold bound low [] = true
 literals_hold bound low (x ∷ xs) = leb low x && (ltb x bound && literals_hold bound (x + 1) xs)
 
-module _ (bound low i end : ℕ) (pool : List ℕ) where
+-- the literals from place i on
+module _ (bound low i : ℕ) (xs : List ℕ) where
   abbrev Rest : Bool
-  Rest = literals_hold bound low (slice i end pool)
+  Rest = literals_hold bound low (drop i xs)
 
-  pub literal_low : i < end → end ≤ length pool → get_or pool i 0 < low → Rest ≡ false
+  pub literal_low : i < length xs → get_or xs i 0 < low → Rest ≡ false
   unfolding literals_hold
-  literal_low l h x = simp (slice-cons i end pool 0 l h, lt-leb _ _ x)
+  literal_low l x = simp (drop-cons xs i 0 l, lt-leb _ _ x)
 
-  pub literal_high : i < end → end ≤ length pool → low ≤ get_or pool i 0 → bound ≤ get_or pool i 0 → Rest ≡ false
+  pub literal_high : i < length xs → low ≤ get_or xs i 0 → bound ≤ get_or xs i 0 → Rest ≡ false
   unfolding literals_hold
-  literal_high l h x y = simp (slice-cons i end pool 0 l h, le-leb _ _ x, le-ltb _ _ y)
+  literal_high l x y = simp (drop-cons xs i 0 l, le-leb _ _ x, le-ltb _ _ y)
 
-  pub literal_good : i < end → end ≤ length pool → low ≤ get_or pool i 0 → get_or pool i 0 < bound
-      → Rest ≡ literals_hold bound (get_or pool i 0 + 1) (slice (i + 1) end pool)
+  pub literal_good : i < length xs → low ≤ get_or xs i 0 → get_or xs i 0 < bound
+      → Rest ≡ literals_hold bound (get_or xs i 0 + 1) (drop (i + 1) xs)
   unfolding literals_hold
-  literal_good l h x y = simp (slice-cons i end pool 0 l h, le-leb _ _ x, lt-ltb _ _ y, add-one i)
+  literal_good l x y = simp (drop-cons xs i 0 l, le-leb _ _ x, lt-ltb _ _ y, add-one i)
 
-  pub literals_over : i ≡ end → Rest ≡ true
+  pub literals_over : length xs ≤ i → Rest ≡ true
   unfolding literals_hold
-  literals_over e = simp (e, slice_empty)
+  literals_over l = simp (drop_of_length-le xs l)
 
-below_twice : (n x : ℕ) → T (below n x) → T (ltb x (2 * n))
-below_twice n x t = omega (arith, ltb→lt, lt→ltb)
+names_is : (n x : ℕ) → ltb x (2 * n) ≡ below n x
+names_is n x = T-same _ _ (λ t. omega (arith, ltb→lt, lt→ltb)) (λ t. omega (arith, ltb→lt, lt→ltb))
 
-twice_below : (n x : ℕ) → T (ltb x (2 * n)) → T (below n x)
-twice_below n x t = omega (arith, ltb→lt, lt→ltb)
+above_is : (x y : ℕ) → leb (x + 1) y ≡ ltb x y
+above_is x y = T-same _ _ (λ t. omega (arith, leb→le, lt→ltb)) (λ t. omega (arith, ltb→lt, le→leb))
+
+and_swap : (a b c d : Bool) → a && (b && (c && d)) ≡ (a && c) && (b && d)
+and_swap true true c d = refl
+and_swap true false c d = sym (and-false c)
+and_swap false b c d = refl
 
 -- the literals after x
-rest_out : (n x : ℕ) (xs : List ℕ) → T (literals_hold (2 * n) (x + 1) xs) → T (ascending_from x xs) × T (names_below n xs)
+rest_is : (n x : ℕ) (xs : List ℕ) → literals_hold (2 * n) (x + 1) xs ≡ ascending_from x xs && names_below n xs
 unfolding literals_hold
-rest_out n x [] t = (tt, tt)
-rest_out n x (y ∷ ys) t =
-    let (low, u) = T_and (leb (x + 1) y) _ t in
-    let (high, rest) = T_and (ltb y (2 * n)) (literals_hold (2 * n) (y + 1) ys) u in
-    let (rises, names) = rest_out n y ys rest in
-    (and_T (ltb x y) (ascending_from y ys) (omega (arith, leb→le, lt→ltb)) rises, and_T (below n y) (names_below n ys) (twice_below n y high) names)
+rest_is n x [] = refl
+rest_is n x (y ∷ ys) =
+    rw (above_is x y, names_is n y, rest_is n y ys) (and_swap (ltb x y) (below n y) (ascending_from y ys) (names_below n ys))
 
-rest_in : (n x : ℕ) (xs : List ℕ) → T (ascending_from x xs) → T (names_below n xs) → T (literals_hold (2 * n) (x + 1) xs)
+literals_is : (n : ℕ) (xs : List ℕ) → literals_hold (2 * n) 0 xs ≡ ascending xs && names_below n xs
 unfolding literals_hold
-rest_in n x [] a b = tt
-rest_in n x (y ∷ ys) a b =
-    let (rises, more) = T_and (ltb x y) (ascending_from y ys) a in
-    let (named, others) = T_and (below n y) (names_below n ys) b in
-    and_T (leb (x + 1) y) _ (omega (arith, ltb→lt, le→leb)) (and_T (ltb y (2 * n)) _ (below_twice n y named) (rest_in n y ys more others))
-
-literals_out : (n : ℕ) (xs : List ℕ) → T (literals_hold (2 * n) 0 xs) → T (ascending xs) × T (names_below n xs)
-unfolding literals_hold
-literals_out n [] t = (tt, tt)
-literals_out n (x ∷ xs) t =
-    let (low, u) = T_and (leb 0 x) _ t in
-    let (high, rest) = T_and (ltb x (2 * n)) (literals_hold (2 * n) (x + 1) xs) u in
-    let (rises, names) = rest_out n x xs rest in
-    (rises, and_T (below n x) (names_below n xs) (twice_below n x high) names)
-
-literals_in : (n : ℕ) (xs : List ℕ) → T (ascending xs) → T (names_below n xs) → T (literals_hold (2 * n) 0 xs)
-unfolding literals_hold
-literals_in n [] a b = tt
-literals_in n (x ∷ xs) a b =
-    let (named, others) = T_and (below n x) (names_below n xs) b in
-    and_T (leb 0 x) _ (le→leb 0 x (omega arith)) (and_T (ltb x (2 * n)) _ (below_twice n x named) (rest_in n x xs a others))
+literals_is n [] = refl
+literals_is n (x ∷ xs) =
+    rw (le-leb 0 x (omega arith), names_is n x, rest_is n x xs) (and_swap true (below n x) (ascending_from x xs) (names_below n xs))
 
 -- ---- one line
-
-slice_is : (f t : ℕ) (l : List ℕ) → slice f t l ≡ take (t - f) (drop f l)
-slice_is zero t l = rw (sub-zero t)
-slice_is (suc f) zero l = let e : zero - suc f ≡ 0 = omega arith in rw e
-slice_is (suc f) (suc t) [] = sym (take-nil (suc t - suc f))
-slice_is (suc f) (suc t) (x ∷ xs) = let e : suc t - suc f ≡ t - f = omega arith in rw e (slice_is f t xs)
 
 -- a line has no more literals than its end is behind the one before
 pub short_line : (pool lines : List ℕ) (k : ℕ) → end_before lines (suc k) ≤ end_before lines k + longest_line
     → length (literals_at pool lines k) ≤ longest_line
 short_line pool lines k h = simp length-take (omega arith)
 
-pub origin→le : (o : ℕ) → T (is_origin o) → (premise ≤ o) × (o ≤ derived)
-origin→le o t = let (low, high) = T_and (leb premise o) (leb o derived) t in (leb→le premise o low, leb→le o derived high)
-
 -- line k, whose literals start at `from`
 module _ (pool lines : List ℕ) (n k from : ℕ) (at : from ≡ end_before lines k) where
   abbrev end : ℕ
   end = get_or lines (line_cells * k) 0
 
-  literals_are : literals_at pool lines k ≡ slice from end pool
-  literals_are = rw (← at) (sym (slice_is from end pool))
+  abbrev pub literals : List ℕ
+  literals = take (end - from) (drop from pool)
+
+  tested : literals_hold (2 * n) 0 literals ≡ ascending (literals_at pool lines k) && names_below n (literals_at pool lines k)
+  tested = rw (← at) (literals_is n literals)
 
   pub good_line : from ≤ end → end ≤ from + longest_line → premise ≤ origin_at lines k → origin_at lines k ≤ derived
-      → literals_hold (2 * n) 0 (slice from end pool) ≡ true → LineGood pool lines n k
+      → literals_hold (2 * n) 0 literals ≡ true → LineGood pool lines n k
   good_line a b c d e =
-      let (ascends, names) = literals_out n (literals_at pool lines k) (true→T (ap (literals_hold (2 * n) 0) literals_are ∙ e)) in
+      let (ascends, names) = T_and (ascending (literals_at pool lines k)) (names_below n (literals_at pool lines k)) (true→T (sym tested ∙ e)) in
       record {
         rise = omega arith;
         short = omega arith;
@@ -127,8 +104,8 @@ module _ (pool lines : List ℕ) (n k from : ℕ) (at : from ≡ end_before line
         };
       }
 
-  pub bad_literals : literals_hold (2 * n) 0 (slice from end pool) ≡ false → LineGood pool lines n k → ⊥
-  bad_literals e g = subst T (ap (literals_hold (2 * n) 0) literals_are ∙ e) (literals_in n (literals_at pool lines k) g.legal.ascends g.legal.names)
+  pub bad_literals : literals_hold (2 * n) 0 literals ≡ false → LineGood pool lines n k → ⊥
+  bad_literals e g = subst T (sym tested ∙ e) (and_T (ascending (literals_at pool lines k)) (names_below n (literals_at pool lines k)) g.legal.ascends g.legal.names)
 
 -- ---- lines
 

@@ -11,51 +11,25 @@ pub fn lines_hold(pool: &[u16], lines: &[u16], low: Mark, m: Mark) -> bool
     ensures { Exactly result (LinesGood pool.now lines.now low m) }
 {
     let bound = 2 * m.forms;
-    let last = m.lines as usize;
     let stop = m.literals as usize;
-    let mut ok = true;
     let mut from = low.literals as usize;
-    let mut k = low.lines as usize;
-    'lines: while k < last {
+    for k in low.lines as usize..m.lines as usize {
         let end = lines[Session::LINE_CELLS * k] as usize;
         let origin = lines[Session::LINE_CELLS * k + 1];
-        if end < from {
-            ok = false;
-            break 'lines;
+        if end < from || from + Session::LONGEST_LINE < end || stop < end {
+            return false;
         }
-        if from + Session::LONGEST_LINE < end {
-            ok = false;
-            break 'lines;
-        }
-        if stop < end {
-            ok = false;
-            break 'lines;
-        }
-        if origin < Session::PREMISE {
-            ok = false;
-            break 'lines;
-        }
-        if Session::DERIVED < origin {
-            ok = false;
-            break 'lines;
+        if origin < Session::PREMISE || Session::DERIVED < origin {
+            return false;
         }
         let mut least: u16 = 0;
-        let mut i = from;
-        while i < end {
-            let x = pool[i];
-            if x < least {
-                ok = false;
-                break 'lines;
-            }
-            if bound <= x {
-                ok = false;
-                break 'lines;
+        for &x in &pool[from..end] {
+            if x < least || bound <= x {
+                return false;
             }
             least = x + 1;
-            i += 1;
         }
         from = end;
-        k += 1;
     }
-    ok
+    true
 }

@@ -1,103 +1,63 @@
 -- `walk::lines_hold` meets its contract.
-use mathlib.Core.Path.{◌≡◌, refl, sym, ◌∙◌}
+use mathlib.Core.Path.{◌≡◌, ◌∙◌}
 use mathlib.Core.Bool.{false}
-use Prim.Native.Nat.{ℕ, suc, ◌*◌, ◌<◌}
+use Prim.Native.Nat.{suc, ◌*◌}
 use native.Mathlib.Omega.{arith}
-use lib.ListN.{get_or}
-use lib.Seq.{slice}
-use Rattle.session.specs.Limits.{line_cells}
-use Rattle.session.specs.Cells.{origin_at}
-use Rattle.walk.specs.Walk.{Exactly, LineGood, LinesGood}
-use Rattle.walk.proofs.Says.{say_yes, say_no}
-use Rattle.walk.proofs.LineWalk.{literals_hold, literal_low, literal_high, literal_good, literals_over}
-use Rattle.walk.proofs.LineWalk.{origin→le, good_line, bad_literals, end_next, rising, one_more}
+use lib.ListN.{drop}
+use Rattle.walk.specs.Walk.{LineGood}
+use Rattle.walk.proofs.Says.{say_no}
+use Rattle.walk.proofs.LineWalk.{literals, literals_hold, literal_low, literal_high, literal_good, literals_over}
+use Rattle.walk.proofs.LineWalk.{good_line, bad_literals, end_next, rising, one_more}
 use Rattle.walk.proofs.lines_hold.Goals as goal
-use Rattle.walk.proofs.lines_hold.Goals.{At-lines, At-loop-i}
-
-abbrev end : At-lines → ℕ
-end l = get_or l.args.lines.now (line_cells * l.lines.k) 0
-
-pub lines-init : goal.lines-init
-lines-init c = (omega arith, omega arith, omega arith, refl, sym c.requires.first, λ n e i a b. absurd (omega arith))
-
-pub overflow_cast-end : goal.overflow_cast-end
-overflow_cast-end c = omega (arith, c.shared_slice_known-1.given (line_cells * c.lines.k))
-
-pub loop-i-init : goal.loop-i-init
-loop-i-init c = (omega arith, c.lines.invariant.3, refl)
-
-pub loop-i-preserved : goal.loop-i-preserved
-loop-i-preserved c =
-    let a = c.args in
-    let e =
-    literal_good (2 * a.m.forms) c.loop-i.least c.loop-i.i (end (goal.at.loop-i-preserved c).At-lines) a.pool.now
-    (omega arith) (omega arith) (omega arith) (omega arith)
-    in
-    (omega arith, c.loop-i.invariant.1, c.loop-i.invariant.2 ∙ e)
-
-pub lines-preserved : goal.lines-preserved
-lines-preserved c =
-    let a = c.args in
-    let e = c.loop-i.invariant.2 ∙ literals_over (2 * a.m.forms) c.loop-i.least c.loop-i.i (end (goal.at.lines-preserved c).At-lines) a.pool.now (omega arith) in (
-      omega arith,
-      omega arith,
-      omega arith,
-      c.loop-i.invariant.1,
-      end_next a.lines.now c.lines.k,
-      λ n same.
-          let g =
-          good_line a.pool.now a.lines.now n c.lines.k c.lines.from c.lines.invariant.4
-          (omega arith) (omega arith) (omega arith) (omega arith) (rw (← same) e)
-          in
-          one_more (LineGood a.pool.now a.lines.now n) a.low.lines c.lines.k (c.lines.invariant.5 n same) g,
-    )
-
-pub returns-after-lines : goal.returns-after-lines
-returns-after-lines c = rw c.lines.invariant.3 (say_yes (λ i a b. c.lines.invariant.5 c.args.m.forms refl i a (omega arith)))
-
--- line k is wrong
-wrong : (l : At-lines) →
-    let a = l.args in
-    l.lines.k < a.m.lines → (LineGood a.pool.now a.lines.now a.m.forms l.lines.k → ⊥)
-    → Exactly false (LinesGood a.pool.now a.lines.now a.low a.m)
-wrong l h f = say_no (λ p. f (p l.lines.k l.lines.invariant.0 h))
+use Rattle.walk.proofs.lines_hold.Goals.{then-end-from-via-then-end-from, then-end-from-via-else-end-from+then-from-end, then-end-from-via-else-end-from+else-from-end+then-stop-end}
+use Rattle.walk.proofs.lines_hold.Goals.{then-x-least-via-then-x-least, then-x-least-via-else-x-least+then-bound-x}
 
 pub returns-then-end-from : goal.returns-then-end-from
-returns-then-end-from c = wrong (goal.at.returns-then-end-from c).At-lines (omega arith) (λ g. omega (arith, g.rise, c.lines.invariant.4))
-
-pub returns-then-from-end : goal.returns-then-from-end
-returns-then-from-end c = wrong (goal.at.returns-then-from-end c).At-lines (omega arith) (λ g. omega (arith, g.short, c.lines.invariant.4))
-
-pub returns-then-stop-end : goal.returns-then-stop-end
-returns-then-stop-end c =
-    let a = c.args in
+returns-then-end-from c =
+    let k = c.loop-k.k in
     say_no
-    (λ p. omega (arith, rising a.lines.now (suc c.lines.k) a.m.lines (omega arith) (λ i h k. (p i (omega arith) k).rise)))
-
-pub returns-then-origin-lt-PREMISE : goal.returns-then-origin-lt-PREMISE
-returns-then-origin-lt-PREMISE c = wrong (goal.at.returns-then-origin-lt-PREMISE c).At-lines (omega arith) (λ g. let h = origin→le (origin_at c.args.lines.now c.lines.k) g.legal.origin in omega arith)
-
-pub returns-then-origin-gt-DERIVED : goal.returns-then-origin-gt-DERIVED
-returns-then-origin-gt-DERIVED c = wrong (goal.at.returns-then-origin-gt-DERIVED c).At-lines (omega arith) (λ g. let h = origin→le (origin_at c.args.lines.now c.lines.k) g.legal.origin in omega arith)
-
--- the literals of line k from i on are wrong
-wrong_literals : (o : At-loop-i) →
-    let a = o.args in
-    literals_hold (2 * a.m.forms) o.loop-i.least (slice o.loop-i.i (end (goal.at.At-loop-i o).At-lines) a.pool.now) ≡ false
-    → Exactly false (LinesGood a.pool.now a.lines.now a.low a.m)
-wrong_literals o e =
-    let a = o.args in
-    wrong (goal.at.At-loop-i o).At-lines (omega arith)
-    (bad_literals a.pool.now a.lines.now a.m.forms o.lines.k o.lines.from o.lines.invariant.4 (o.loop-i.invariant.2 ∙ e))
+    (λ p.
+    let g = p k (omega arith) (omega arith) in
+    let r = rising c.args.lines.now (suc k) c.args.m.lines (omega arith) (λ i h l. (p i (omega arith) l).rise) in
+    elim c.then-end-from.branch [
+      | then-end-from-via-then-end-from w ↦ omega (arith, g.rise)
+      | then-end-from-via-else-end-from+then-from-end w ↦ omega (arith, g.short)
+      | then-end-from-via-else-end-from+else-from-end+then-stop-end w ↦ omega arith
+    ])
 
 pub returns-then-x-least : goal.returns-then-x-least
 returns-then-x-least c =
     let a = c.args in
-    wrong_literals (goal.at.returns-then-x-least c).At-loop-i
-    (literal_low (2 * a.m.forms) c.loop-i.least c.loop-i.i (end (goal.at.returns-then-x-least c).At-lines) a.pool.now (omega arith) (omega arith) (omega arith))
+    let k = c.loop-k.k in
+    let i = c.loop-x.x-index in
+    let n = a.m.forms in
+    let xs = literals a.pool.now a.lines.now n k c.loop-k.from c.loop-k.invariant.begins in
+    let wrong : literals_hold (2 * n) c.loop-x.least (drop i xs) ≡ false =
+    elim c.then-x-least.branch [
+      | then-x-least-via-then-x-least w ↦ literal_low (2 * n) c.loop-x.least i xs (omega arith) (omega arith)
+      | then-x-least-via-else-x-least+then-bound-x w ↦ literal_high (2 * n) c.loop-x.least i xs (omega arith) (omega arith) (omega arith)
+    ]
+    in
+    say_no
+    (λ p. bad_literals a.pool.now a.lines.now n k c.loop-k.from c.loop-k.invariant.begins (c.loop-x.invariant ∙ wrong) (p k (omega arith) (omega arith)))
 
-pub returns-then-bound-x : goal.returns-then-bound-x
-returns-then-bound-x c =
+pub loop-x-preserved : goal.loop-x-preserved
+loop-x-preserved c =
     let a = c.args in
-    wrong_literals (goal.at.returns-then-bound-x c).At-loop-i
-    (literal_high (2 * a.m.forms) c.loop-i.least c.loop-i.i (end (goal.at.returns-then-bound-x c).At-lines) a.pool.now (omega arith) (omega arith) (omega arith) (omega arith))
+    let n = a.m.forms in
+    let xs = literals a.pool.now a.lines.now n c.loop-k.k c.loop-k.from c.loop-k.invariant.begins in
+    c.loop-x.invariant ∙ literal_good (2 * n) c.loop-x.least c.loop-x.x-index xs (omega arith) (omega arith) (omega arith)
+
+pub loop-k-preserved : goal.loop-k-preserved
+loop-k-preserved c =
+    let a = c.args in
+    let k = c.loop-k.k in
+    let n = a.m.forms in
+    record {
+      room = omega arith;
+      begins = end_next a.lines.now k;
+      good =
+          one_more (LineGood a.pool.now a.lines.now n) a.low.lines k c.loop-k.invariant.good
+          (good_line a.pool.now a.lines.now n k c.loop-k.from c.loop-k.invariant.begins (omega arith) (omega arith) (omega arith) (omega arith)
+          (c.loop-x.invariant ∙ literals_over (2 * n) c.loop-x.least c.loop-x.x-index _ (omega arith)));
+    }

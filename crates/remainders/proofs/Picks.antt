@@ -1,8 +1,7 @@
 -- The forms that an AR record names: what its tests say of them on the ledger, by the cells; and how they are read from the record's bytes.
 use mathlib.Core.Path.{◌≡◌, refl, sym, ap, ◌∙◌}
 use mathlib.Core.List.{List, [], ◌∷◌, map}
-use Prim.Native.Nat.{ℕ, ◌-◌, ◌≤◌}
-use native.Mathlib.Nat.{sub-zero}
+use Prim.Native.Nat.{ℕ, ◌≤◌}
 use lib.Dec.{T, ltb, ltb→lt}
 use lib.IntN.{ℤ, pos}
 use lib.ListN.{length, get_or, take}
@@ -23,7 +22,8 @@ use Rattle.ledger.specs.Bytes.{numbers_behind}
 use Rattle.ledger.proofs.Findings.{pass→passed}
 use Rattle.ledger.proofs.Remainders.{remainders_differ}
 use Rattle.fields.specs.Fields.{Listed, NumbersRead}
-use Rattle.rules.specs.Read.{FormsHeld, forms_in}
+use Rattle.rules.specs.Held.{FormsHeld}
+use Rattle.rules.specs.Read.{forms_in}
 use Rattle.rules.proofs.HeldLaws.{form_count, form_is, form_legal, in_force}
 use Rattle.rules.proofs.FieldLaws.{low_form}
 
@@ -61,12 +61,12 @@ module _ {n many : ℕ} {cells : List ℤ} (h : FormsHeld n many cells) where
 -- ---- read from bytes
 
 module _ {b : List ℕ} {k : ℕ} {cells : List ℕ} (e : NumbersRead behind_letters b k cells) where
-  pub lent : take (k - 0) cells ≡ numbers_behind behind_letters b
-  lent = rw sub-zero e.read
+  pub lent : take k cells ≡ numbers_behind behind_letters b
+  lent = e.read
 
   module _ (w : Listed behind_letters 2 1 longest_line b) where
-    pub lent_some : 1 ≤ length (take (k - 0) cells)
+    pub lent_some : 1 ≤ length (take k cells)
     lent_some = rw (lent, length_up_to) w.some
 
-    pub lent_few : length (take (k - 0) cells) ≤ longest_line
+    pub lent_few : length (take k cells) ≤ longest_line
     lent_few = rw (lent, length_up_to) w.few

@@ -3,7 +3,6 @@
 #![tactic(auto)]
 
 ghost use Rattle.std.specs.Prelude.{◌≡◌, ◌≤◌, length};
-ghost use Rattle.rows.specs.Limits.{unknowns};
 ghost use Rattle.ledger.specs.Limits.{longest_line};
 ghost use Rattle.ledger.specs.Record.{AR, LF, SU, SD, lf, su, sd, rule_layout, behind_letters};
 ghost use Rattle.ledger.specs.Checks.{scaling};
@@ -11,119 +10,89 @@ ghost use Rattle.ledger.specs.Apply.{finding};
 ghost use Rattle.ledger.specs.Bytes.{u16_at, numbers_behind};
 ghost use Rattle.session.specs.Answers.{finding_of};
 ghost use Rattle.fields.specs.Fields.{Listed};
-ghost use Rattle.proposals.specs.Proposing.{Scratch};
-ghost use Rattle.rules.specs.Read.{FormsHeld, forms_in, Judged, ProposesRule, ProposesSum};
+ghost use Rattle.rules.specs.Read.{forms_read, Judged, ProposesRule};
 
 use fields::numbers::u16_at;
-use proposals::Proposal;
 use proposals::derived::{all_unnegated, two};
+use proposals::{Proposal, Scratch};
 use records::marks::BEHIND_LETTERS;
 use rules::forms::{both_are, holds};
-use session::answers::{Refusal, Verdict};
+use rules::held::Forms;
+use session::answers::Refusal;
 
 // A form with a divisor is a divides form, as its content is legal: that there are as many forms as each divisor says tests both.
-fn judge_remainder(count: u16, forms: &[i32], picks: &[u16]) -> Verdict
-    requires { FormsHeld unknowns count forms.now × (1 ≤ length picks.now) × (length picks.now ≤ longest_line) }
-    ensures { Judged unknowns count forms.now (AR picks.now) result }
+fn judge_remainder(forms: Forms, picks: &[u16]) -> Result<(), Refusal>
+    requires { (1 ≤ length picks.now) × (length picks.now ≤ longest_line) }
+    ensures { Judged forms.entry (AR picks.now) result }
 {
-    if !literals::tests::all_below(picks, count) {
-        return Verdict::Fail(Refusal::NotInForce);
+    if !literals::tests::all_below(picks, forms.count) {
+        return Err(Refusal::NotInForce);
     }
-    if !conditions::picked::divisors_are(forms, picks, picks.len() as i32) {
-        return Verdict::Fail(Refusal::NotAllowed);
+    if !conditions::picked::divisors_are(forms.cells, picks, picks.len() as i32) {
+        return Err(Refusal::NotAllowed);
     }
-    if !conditions::picked::are_neighbours(forms, picks) {
-        return Verdict::Fail(Refusal::ConditionFails);
+    if !conditions::picked::are_neighbours(forms.cells, picks) {
+        return Err(Refusal::ConditionFails);
     }
-    Verdict::Pass
+    Ok(())
 }
 
-pub fn remainder(
-    count: u16,
-    forms: &[i32],
-    bytes: &[u8],
-    first: &mut [u16],
-    second: &mut [u16],
-) -> Proposal
-    requires { FormsHeld unknowns count forms.now × Listed behind_letters 2 1 longest_line bytes.now × Scratch first.old second.old }
-    ensures { ProposesSum unknowns count forms.now (AR (numbers_behind behind_letters bytes.now)) result second.new }
+pub fn remainder(forms: Forms, bytes: &[u8], scratch: &mut Scratch) -> Result<Proposal, Refusal>
+    requires { Listed behind_letters 2 1 longest_line bytes.now }
+    ensures { ProposesRule forms.entry (AR (numbers_behind behind_letters bytes.now)) result scratch.new }
 {
-    let n = fields::read_numbers(first, bytes, BEHIND_LETTERS);
-    let v = judge_remainder(count, forms, &first[0..n]);
-    all_unnegated(v, &first[0..n], second)
+    let n = fields::read_numbers(&mut scratch.first, bytes, BEHIND_LETTERS);
+    let v = judge_remainder(forms, &scratch.first[..n]);
+    all_unnegated(v, n, scratch)
 }
 
-fn judge_loosening(count: u16, forms: &[i32], g: u16, h: u16) -> Verdict
-    requires { FormsHeld unknowns count forms.now }
-    ensures { Judged unknowns count forms.now (LF g h) result }
+fn judge_loosening(forms: Forms, g: u16, h: u16) -> Result<(), Refusal>
+    ensures { Judged forms.entry (LF g h) result }
 {
-    let both = both_are(count, forms, rows::IS_DIVIDED, g, rows::IS_DIVIDED, h);
-    if let Verdict::Fail(why) = both {
-        return Verdict::Fail(why);
-    }
-    holds(conditions::divided::loosens(forms, g, h))
+    both_are(forms, rows::IS_DIVIDED, g, rows::IS_DIVIDED, h)?;
+    holds(conditions::divided::loosens(forms.cells, g, h))
 }
 
-pub fn loosening(
-    count: u16,
-    forms: &[i32],
-    bytes: &[u8],
-    first: &mut [u16],
-    second: &mut [u16],
-) -> Proposal
-    requires { FormsHeld unknowns count forms.now × (length bytes.now ≡ (rule_layout lf).bytes) × Scratch first.old second.old }
-    ensures { ProposesRule unknowns count forms.now (LF (u16_at bytes.now 2) (u16_at bytes.now 4)) result first.new second.new }
+pub fn loosening(forms: Forms, bytes: &[u8], scratch: &mut Scratch) -> Result<Proposal, Refusal>
+    requires { length bytes.now ≡ (rule_layout lf).bytes }
+    ensures { ProposesRule forms.entry (LF (u16_at bytes.now 2) (u16_at bytes.now 4)) result scratch.new }
 {
     let g = u16_at(bytes, 2);
     let h = u16_at(bytes, 4);
-    let v = judge_loosening(count, forms, g, h);
-    two(v, g, 1, h, first, second)
+    let v = judge_loosening(forms, g, h);
+    two(v, g, 1, h, scratch)
 }
 
-fn judge_scaling(count: u16, forms: &[i32], g: u16, h: u16, k: u16) -> Verdict
-    requires { FormsHeld unknowns count forms.now }
-    ensures { finding_of result ≡ finding (scaling (forms_in unknowns count forms.now) g h k) }
+fn judge_scaling(forms: Forms, g: u16, h: u16, k: u16) -> Result<(), Refusal>
+    ensures { finding_of result ≡ finding (scaling (forms_read forms.entry) g h k) }
 {
-    let both = both_are(count, forms, rows::IS_DIVIDED, g, rows::IS_DIVIDED, h);
-    if let Verdict::Fail(why) = both {
-        return Verdict::Fail(why);
-    }
+    both_are(forms, rows::IS_DIVIDED, g, rows::IS_DIVIDED, h)?;
     if k < 1 {
-        return Verdict::Fail(Refusal::NotAllowed);
+        return Err(Refusal::NotAllowed);
     }
-    holds(conditions::divided::scales(forms, k as i32, g, h))
+    holds(conditions::divided::scales(forms.cells, k as i32, g, h))
 }
 
-pub fn scaling_up(
-    count: u16,
-    forms: &[i32],
-    bytes: &[u8],
-    first: &mut [u16],
-    second: &mut [u16],
-) -> Proposal
-    requires { FormsHeld unknowns count forms.now × (length bytes.now ≡ (rule_layout su).bytes) × Scratch first.old second.old }
-    ensures { ProposesRule unknowns count forms.now (SU (u16_at bytes.now 2) (u16_at bytes.now 4) (u16_at bytes.now 6)) result first.new second.new }
+// SU and SD stay two functions: each has the contract of its own record, and their lines differ in the order of the forms. What they share is
+// `judge_scaling` and `two`.
+pub fn scaling_up(forms: Forms, bytes: &[u8], scratch: &mut Scratch) -> Result<Proposal, Refusal>
+    requires { length bytes.now ≡ (rule_layout su).bytes }
+    ensures { ProposesRule forms.entry (SU (u16_at bytes.now 2) (u16_at bytes.now 4) (u16_at bytes.now 6)) result scratch.new }
 {
     let g = u16_at(bytes, 2);
     let h = u16_at(bytes, 4);
     let k = u16_at(bytes, 6);
-    let v = judge_scaling(count, forms, g, h, k);
-    two(v, g, 1, h, first, second)
+    let v = judge_scaling(forms, g, h, k);
+    two(v, g, 1, h, scratch)
 }
 
-pub fn scaling_down(
-    count: u16,
-    forms: &[i32],
-    bytes: &[u8],
-    first: &mut [u16],
-    second: &mut [u16],
-) -> Proposal
-    requires { FormsHeld unknowns count forms.now × (length bytes.now ≡ (rule_layout sd).bytes) × Scratch first.old second.old }
-    ensures { ProposesRule unknowns count forms.now (SD (u16_at bytes.now 2) (u16_at bytes.now 4) (u16_at bytes.now 6)) result first.new second.new }
+pub fn scaling_down(forms: Forms, bytes: &[u8], scratch: &mut Scratch) -> Result<Proposal, Refusal>
+    requires { length bytes.now ≡ (rule_layout sd).bytes }
+    ensures { ProposesRule forms.entry (SD (u16_at bytes.now 2) (u16_at bytes.now 4) (u16_at bytes.now 6)) result scratch.new }
 {
     let g = u16_at(bytes, 2);
     let h = u16_at(bytes, 4);
     let k = u16_at(bytes, 6);
-    let v = judge_scaling(count, forms, g, h, k);
-    two(v, h, 1, g, first, second)
+    let v = judge_scaling(forms, g, h, k);
+    two(v, h, 1, g, scratch)
 }

@@ -1,61 +1,57 @@
 // RS: what each parent leaves without its literal of the pivot is gathered out of the pool; both, joined, are the line.
 #![tactic(auto)]
 
-ghost use Rattle.std.specs.Prelude.{◌≡◌, ◌≤◌, ◌<◌, length};
-ghost use Rattle.ledger.specs.Limits.{most_forms, longest_line};
+ghost use Rattle.std.specs.Prelude.{◌≡◌, ◌≤◌, ◌<◌};
+ghost use Rattle.ledger.specs.Limits.{most_forms};
 ghost use Rattle.session.specs.Cells.{literals_at};
-ghost use Rattle.rules.specs.Read.{LinesHeld, Resolves};
+ghost use Rattle.rules.specs.Read.{Resolves};
 
-use proposals::{NewLine, Proposal};
+use proposals::{NewLine, Proposal, Scratch};
+use rules::held::Lines;
 use session::answers::Refusal;
 use session::state::Session;
 
 // The literals of line i.
-fn literals_of<'a>(count: u16, pool: &'a [u16], lines: &[u16], i: u16) -> &'a [u16]
-    requires { LinesHeld count pool.now lines.now × (i < count) }
-    ensures { result.now ≡ literals_at pool.now lines.now i }
+fn literals_of<'a>(lines: Lines<'a>, i: u16) -> &'a [u16]
+    requires { i < lines.count }
+    ensures { result.now ≡ literals_at lines.entry.pool.now lines.entry.lines.now i }
 {
     let k = i as usize;
-    let from = session::lines::end_before(lines, k) as usize;
-    let end = session::lines::end_before(lines, k + 1) as usize;
-    &pool[from..end]
+    let from = session::lines::end_before(lines.lines, k) as usize;
+    let end = session::lines::end_before(lines.lines, k + 1) as usize;
+    &lines.pool[from..end]
 }
 
 pub fn resolve(
     forms: u16,
-    count: u16,
-    pool: &[u16],
-    lines: &[u16],
+    lines: Lines,
     pivot: u16,
     i: u16,
     j: u16,
-    first: &mut [u16],
-    second: &mut [u16],
-) -> Proposal
-    requires { LinesHeld count pool.now lines.now × (forms ≤ most_forms) × (length first.old ≡ longest_line) × (length second.old ≡ longest_line) }
-    ensures { Resolves forms count pool.now lines.now pivot i j result first.new second.new }
+    scratch: &mut Scratch,
+) -> Result<Proposal, Refusal>
+    requires { forms ≤ most_forms }
+    ensures { Resolves forms lines.entry pivot i j result scratch.new }
 {
-    if forms <= pivot {
-        return Proposal::Refused(Refusal::NotInForce);
+    if forms <= pivot || lines.count <= i || lines.count <= j {
+        return Err(Refusal::NotInForce);
     }
-    if count <= i {
-        return Proposal::Refused(Refusal::NotInForce);
-    }
-    if count <= j {
-        return Proposal::Refused(Refusal::NotInForce);
-    }
-    let a = literals_of(count, pool, lines, i);
-    let b = literals_of(count, pool, lines, j);
-    let n = literals::gather::gather(first, a, 2 * pivot);
+    let a = literals_of(lines, i);
+    let b = literals_of(lines, j);
+    let n = literals::gather::gather(&mut scratch.first, a, 2 * pivot);
     if n == a.len() {
-        return Proposal::Refused(Refusal::ConditionFails);
+        return Err(Refusal::ConditionFails);
     }
-    let m = literals::gather::gather(second, b, 2 * pivot + 1);
+    let m = literals::gather::gather(&mut scratch.second, b, 2 * pivot + 1);
     if m == b.len() {
-        return Proposal::Refused(Refusal::ConditionFails);
+        return Err(Refusal::ConditionFails);
     }
-    if literals::join::longer_than(&first[0..n], &second[0..m], Session::LONGEST_LINE) {
-        return Proposal::Refused(Refusal::LineTooLong);
+    if literals::join::longer_than(
+        &scratch.first[..n],
+        &scratch.second[..m],
+        Session::LONGEST_LINE,
+    ) {
+        return Err(Refusal::LineTooLong);
     }
-    Proposal::Line(NewLine::derived(n, m))
+    Ok(Proposal::Line(NewLine::derived(n, m)))
 }

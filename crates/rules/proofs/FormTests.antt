@@ -16,7 +16,8 @@ use Rattle.rows.specs.Summable.{row_at}
 use Rattle.ledger.specs.Literals.{names_below}
 use Rattle.ledger.specs.Ledger.{nth_row}
 use Rattle.ledger.specs.Checks.{form_in, literal_in, is_kind}
-use Rattle.rules.specs.Read.{FormsHeld, forms_in}
+use Rattle.rules.specs.Held.{FormsHeld}
+use Rattle.rules.specs.Read.{forms_in}
 use Rattle.rules.proofs.HeldLaws.{form_count, form_is}
 
 -- the kind k of form f was read, and its bits are compared with those of l

@@ -20,7 +20,8 @@ use Rattle.ledger.specs.Checks.{tests}
 use Rattle.ledger.specs.Apply.{Finding, finding}
 use Rattle.session.specs.Cells.{tables, literals_at, line_at}
 use Rattle.laid.proofs.ByIndex.{get_or_up_to}
-use Rattle.rules.specs.Read.{FormsHeld, forms_in, LinesHeld, lines_in}
+use Rattle.rules.specs.Held.{FormsHeld, LinesHeld}
+use Rattle.rules.specs.Read.{forms_in, lines_in}
 
 -- what a rule's tests find on the forms that are read
 abbrev pub Finds : ℕ → ℕ → List ℤ → Rule → Finding → Type 0

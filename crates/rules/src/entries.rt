@@ -8,45 +8,43 @@ ghost use Rattle.ledger.specs.Checks.{tests};
 ghost use Rattle.ledger.specs.Apply.{finding};
 ghost use Rattle.ledger.specs.Bytes.{form_from, numbers_behind};
 ghost use Rattle.session.specs.Answers.{finding_of};
-ghost use Rattle.session.specs.Limits.{form_cells};
 ghost use Rattle.fields.specs.Fields.{Listed};
 ghost use Rattle.rules.specs.Read.{ProposesForm, ProposesPremise};
 
-use proposals::{NewLine, Proposal};
+use proposals::{NewLine, Proposal, Scratch};
 use records::marks::BEHIND_LETTERS;
-use session::answers::{Refusal, Verdict};
+use session::answers::Refusal;
+use session::state::Session;
 
-pub fn form(bytes: &[u8], cells: &mut [i32]) -> Proposal
-    requires { (length bytes.now ≡ (rule_layout fm).bytes) × (length cells.old ≡ form_cells unknowns) }
-    ensures { ProposesForm unknowns (FM (form_from bytes.now)) result cells.new }
+pub fn form(bytes: &[u8], scratch: &mut Scratch) -> Result<Proposal, Refusal>
+    requires { length bytes.now ≡ (rule_layout fm).bytes }
+    ensures { ProposesForm (FM (form_from bytes.now)) result scratch.new }
 {
+    let cells = &mut scratch.cells[..Session::FORM_CELLS];
     fields::read_form(cells, bytes);
     if !contents::content::legal(cells) {
-        return Proposal::Refused(Refusal::IllegalContent);
+        return Err(Refusal::IllegalContent);
     }
-    Proposal::Form
+    Ok(Proposal::Form)
 }
 
-fn judge_premise(count: u16, literals: &[u16]) -> Verdict
+fn judge_premise(count: u16, literals: &[u16]) -> Result<(), Refusal>
     ensures { (fs : List Form) → length fs ≡ count → finding_of result ≡ finding (tests unknowns fs [] (PM literals.now)) }
 {
     if !literals::tests::all_name_below(literals, count) {
-        return Verdict::Fail(Refusal::NotInForce);
+        return Err(Refusal::NotInForce);
     }
     if !literals::tests::ascend(literals) {
-        return Verdict::Fail(Refusal::NotAscending);
+        return Err(Refusal::NotAscending);
     }
-    Verdict::Pass
+    Ok(())
 }
 
-pub fn premise(count: u16, bytes: &[u8], second: &mut [u16]) -> Proposal
-    requires { Listed behind_letters 2 0 longest_line bytes.now × (length second.old ≡ longest_line) }
-    ensures { ProposesPremise unknowns count (PM (numbers_behind behind_letters bytes.now)) result second.new }
+pub fn premise(count: u16, bytes: &[u8], scratch: &mut Scratch) -> Result<Proposal, Refusal>
+    requires { Listed behind_letters 2 0 longest_line bytes.now }
+    ensures { ProposesPremise count (PM (numbers_behind behind_letters bytes.now)) result scratch.new }
 {
-    let n = fields::read_numbers(second, bytes, BEHIND_LETTERS);
-    let v = judge_premise(count, &second[0..n]);
-    if let Verdict::Fail(why) = v {
-        return Proposal::Refused(why);
-    }
-    Proposal::Line(NewLine::premise(n))
+    let n = fields::read_numbers(&mut scratch.second, bytes, BEHIND_LETTERS);
+    judge_premise(count, &scratch.second[..n])?;
+    Ok(Proposal::Line(NewLine::premise(n)))
 }

@@ -1,39 +1,38 @@
 // What the rules on two forms share: the test that both are in force and of their kinds, and what a condition on them finds.
 ghost use Rattle.std.specs.Prelude.{◌≡◌, ◌∷◌, []};
-ghost use Rattle.rows.specs.Limits.{unknowns};
 ghost use Rattle.ledger.specs.Checks.{◌else◌, both_are};
 ghost use Rattle.ledger.specs.Apply.{finding};
 ghost use Rattle.session.specs.Answers.{finding_of};
-ghost use Rattle.rules.specs.Read.{FormsHeld, forms_in};
+ghost use Rattle.rules.specs.Read.{forms_read};
 
-use session::answers::{Refusal, Verdict};
+use crate::held::Forms;
+use session::answers::Refusal;
 
-// Whether both forms are in force, and each is of its kind.
-pub fn both_are(count: u16, forms: &[i32], j: i32, a: u16, k: i32, b: u16) -> Verdict
-    requires { FormsHeld unknowns count forms.now }
-    ensures { finding_of result ≡ finding (both_are (forms_in unknowns count forms.now) j a k b) }
+// Whether both forms are in force, and each is of its kind: a number, as the ledger's test and the cells have it, and any, where an enum would take fewer.
+pub fn both_are(forms: Forms, j: i32, a: u16, k: i32, b: u16) -> Result<(), Refusal>
+    ensures { finding_of result ≡ finding (both_are (forms_read forms.entry) j a k b) }
 {
-    if count <= a {
-        return Verdict::Fail(Refusal::NotInForce);
+    if forms.count <= a {
+        return Err(Refusal::NotInForce);
     }
-    if count <= b {
-        return Verdict::Fail(Refusal::NotInForce);
+    if forms.count <= b {
+        return Err(Refusal::NotInForce);
     }
-    if contents::cells::kind(forms, a) != j {
-        return Verdict::Fail(Refusal::NotAllowed);
+    if contents::cells::kind(forms.cells, a) != j {
+        return Err(Refusal::NotAllowed);
     }
-    if contents::cells::kind(forms, b) != k {
-        return Verdict::Fail(Refusal::NotAllowed);
+    if contents::cells::kind(forms.cells, b) != k {
+        return Err(Refusal::NotAllowed);
     }
-    Verdict::Pass
+    Ok(())
 }
 
 // What a condition on rows finds.
-pub fn holds(condition: bool) -> Verdict
+pub fn holds(condition: bool) -> Result<(), Refusal>
     ensures { finding_of result ≡ finding ((condition else 11) ∷ []) }
 {
     if condition {
-        return Verdict::Pass;
+        return Ok(());
     }
-    Verdict::Fail(Refusal::ConditionFails)
+    Err(Refusal::ConditionFails)
 }

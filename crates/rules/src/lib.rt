@@ -5,3 +5,4 @@
 
 pub mod entries;
 pub mod forms;
+pub mod held;

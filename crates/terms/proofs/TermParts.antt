@@ -1,20 +1,24 @@
 -- Terms: their forms, a test and a sum of all of them, their kinds by ranges, and the numbers of what is legal.
-use mathlib.Core.Path.{◌≡◌, refl, sym, ap}
+use mathlib.Core.Path.{◌≡◌, refl, sym, subst, ap, ◌∙◌}
 use mathlib.Core.Bool.{Bool, true, false, not, ◌&&◌, ◌||◌, cond, and-false}
 use mathlib.Core.List.{List, [], ◌∷◌}
-use Prim.Native.Nat.{ℕ, zero, suc, ◌+◌, ◌≤◌}
+use Prim.Native.Nat.{ℕ, zero, suc, ◌+◌, ◌≤◌, ◌<◌}
 use native.Mathlib.Omega.{arith}
 use borrow.Author.Tests.{lt-leb, ne_eqb}
 use lib.Dec.{T, eqb, leb, leb→le, eqb→eq}
 use lib.IntN.{ℤ, pos, negsuc, neg_ℤ}
 use lib.ListN.{length, get_or}
+use Rattle.std.specs.List.{list_all, zip}
+use Rattle.std.proofs.lemmas.List.{get_or_read}
+use Rattle.std.proofs.lemmas.Slice.Zip.{length-zip, get_or-zip}
 use Rattle.ints.specs.Tests.{eq_z, between, all}
 use Rattle.ints.proofs.Bools.{T_and, T-same}
 use Rattle.rows.specs.Limits.{largest_multiplier}
 use Rattle.rows.specs.Row.{Row, plus, scaled}
 use Rattle.rows.specs.Form.{Form, at_most, is_zero, is_divided, in_range, legal_divisor, legal, legal_multiplier}
 use Rattle.rows.specs.Sum.{Term, summed_onto}
-use Rattle.rows.specs.Summable.{terms}
+use Rattle.rows.specs.Summable.{terms, Inside, Picked}
+use Rattle.rows.proofs.TermLaws.{term}
 use Rattle.ledger.specs.Ledger.{nth_form}
 use Rattle.ledger.specs.Checks.{forms_of, first_divisor}
 
@@ -22,6 +26,21 @@ pub forms_terms : (ps : List ℕ) (ms : List ℤ) → length ps ≡ length ms �
 forms_terms [] ms e = refl
 forms_terms (f ∷ ps) [] e = absurd (omega arith)
 forms_terms (f ∷ ps) (m ∷ ms) e = ap (◌∷◌ f) (forms_terms ps ms (omega arith))
+
+-- a test of all terms is a test of the pairs of a form and its multiplier
+pub pairs : (test : Term → Bool) (ps : List ℕ) (ms : List ℤ) → list_all (λ p. test (term p.0 p.1)) (zip ps ms) ≡ all test (terms ps ms)
+pairs test [] ms = refl
+pairs test (f ∷ ps) [] = refl
+pairs test (f ∷ ps) (m ∷ ms) = rw (pairs test ps ms) refl
+
+-- the form of a pair is in the table, as each picked form is
+pub pair_inside : {n : ℕ} {table : List ℤ} {ps : List ℕ} → Picked n table ps → (ms : List ℤ) (p : ℕ × ℤ) (k : ℕ) → k < length (zip ps ms)
+    → p ≡ get_or (zip ps ms) k p → Inside n table p.0
+pair_inside {n} {table} {ps} h ms p k l e =
+    let m = length-zip ps ms in
+    let first : k < length ps = omega (arith, m) in
+    let here = get_or_read (zip ps ms) k p l e (0, pos 0) ∙ get_or-zip ps ms k (0, pos 0) first (omega (arith, m)) in
+    subst (λ (f : ℕ). Inside n table f) (sym (ap (λ (x : ℕ × ℤ). x.0) here)) (h.inside k first)
 
 pub first_divisor_lem : (fs : List Form) (ps : List ℕ) (ms : List ℤ) → 1 ≤ length ps → length ps ≡ length ms
     → first_divisor fs (terms ps ms) ≡ (nth_form fs (get_or ps 0 0)).divisor

@@ -1,35 +1,35 @@
 // The rules on sums: FK and CL. Both read their terms, test forms, kinds and multipliers, and then what the sum reaches.
 #![tactic(auto)]
 
-ghost use Rattle.std.specs.Prelude.{◌≡◌, length};
+ghost use Rattle.std.specs.Prelude.{◌≡◌};
 ghost use Rattle.ints.specs.Tests.{all};
 ghost use Rattle.rows.specs.Limits.{unknowns, most_terms};
 ghost use Rattle.rows.specs.Form.{form_at};
 ghost use Rattle.rows.specs.Summable.{Inside, Picked, terms};
 ghost use Rattle.ledger.specs.Record.{FK, CL, behind_letters};
+ghost use Rattle.ledger.specs.Apply.{finding};
 ghost use Rattle.ledger.specs.Bytes.{terms_behind};
+ghost use Rattle.session.specs.Answers.{finding_of};
 ghost use Rattle.fields.specs.Fields.{Listed};
-ghost use Rattle.proposals.specs.Proposing.{Scratch};
-ghost use Rattle.rules.specs.Read.{FormsHeld, Judged, ProposesSum};
-ghost use Rattle.terms.specs.Picks.{Paired, allowed};
+ghost use Rattle.rules.specs.Read.{Judged, ProposesRule};
+ghost use Rattle.terms.specs.Picks.{Paired, allowed, shared};
 
 use fields::read_terms;
-use proposals::Proposal;
 use proposals::derived::all_negated;
+use proposals::{Proposal, Scratch};
 use records::marks::BEHIND_LETTERS;
 use rows::Reached;
-use session::answers::{Refusal, Verdict};
+use rules::forms::holds;
+use rules::held::Forms;
+use session::answers::Refusal;
 
-// Whether form f has a kind of this range, and may be added m times.
+// Whether form f has a kind of this range, and may be added m times. Kinds are numbers, as `kind` and `legal_multiplier` have them.
 fn term_allowed(forms: &[i32], f: u16, m: i32, low: i32, high: i32) -> bool
     requires { Inside unknowns forms.now f }
     ensures { result ≡ allowed low high (form_at unknowns forms.now f).kind m }
 {
     let kind = contents::cells::kind(forms, f);
-    if !contents::exact::is_between(low, high, kind) {
-        return false;
-    }
-    contents::content::legal_multiplier(kind, m)
+    contents::exact::is_between(low, high, kind) && contents::content::legal_multiplier(kind, m)
 }
 
 // Whether every term is.
@@ -37,106 +37,93 @@ fn terms_allowed(forms: &[i32], picks: &[u16], multipliers: &[i32], low: i32, hi
     requires { Picked unknowns forms.now picks.now × Paired picks.now multipliers.now }
     ensures { result ≡ all (λ t. allowed low high (form_at unknowns forms.now t.form).kind t.multiplier) (terms picks.now multipliers.now) }
 {
-    let mut i: usize = 0;
-    while i < picks.len() {
-        let f = picks[i];
-        let m = multipliers[i];
-        if !term_allowed(forms, f, m, low, high) {
-            return false;
-        }
-        i += 1;
-    }
-    true
+    picks
+        .iter()
+        .zip(multipliers)
+        .all(|(&f, &m)| term_allowed(forms, f, m, low, high))
 }
 
-fn judge_farkas(count: u16, forms: &[i32], picks: &[u16], multipliers: &[i32]) -> Verdict
-    requires { FormsHeld unknowns count forms.now × Paired picks.now multipliers.now }
-    ensures { Judged unknowns count forms.now (FK (terms picks.now multipliers.now)) result }
+// The tests that both rules share: the forms are in force and ascend, their kinds lie in this range, and they may be added so many times.
+#[tactic(auto, unfolding(ledger::specs::Apply::finding))]
+fn judge_terms(
+    forms: Forms,
+    picks: &[u16],
+    multipliers: &[i32],
+    low: i32,
+    high: i32,
+) -> Result<(), Refusal>
+    requires { Paired picks.now multipliers.now }
+    ensures { finding_of result ≡ finding (shared unknowns forms.entry.count forms.entry.cells.now low high picks.now multipliers.now) }
 {
-    if !literals::tests::all_below(picks, count) {
-        return Verdict::Fail(Refusal::NotInForce);
+    if !literals::tests::all_below(picks, forms.count) {
+        return Err(Refusal::NotInForce);
     }
     if !literals::tests::ascend(picks) {
-        return Verdict::Fail(Refusal::NotAscending);
+        return Err(Refusal::NotAscending);
     }
-    if !terms_allowed(forms, picks, multipliers, rows::AT_MOST, rows::IS_ZERO) {
-        return Verdict::Fail(Refusal::NotAllowed);
+    if !terms_allowed(forms.cells, picks, multipliers, low, high) {
+        return Err(Refusal::NotAllowed);
     }
-    match sums::combine(forms, picks, multipliers, 0) {
-        Reached::Coefficient(_, _) => Verdict::Fail(Refusal::ConditionFails),
-        Reached::Constant(k) => {
-            if k < 1 {
-                Verdict::Fail(Refusal::ConditionFails)
-            } else {
-                Verdict::Pass
-            }
-        }
+    Ok(())
+}
+
+fn judge_farkas(forms: Forms, picks: &[u16], multipliers: &[i32]) -> Result<(), Refusal>
+    requires { Paired picks.now multipliers.now }
+    ensures { Judged forms.entry (FK (terms picks.now multipliers.now)) result }
+{
+    judge_terms(forms, picks, multipliers, rows::AT_MOST, rows::IS_ZERO)?;
+    match sums::combine(forms.cells, picks, multipliers, 0) {
+        Reached::Coefficient(_, _) => Err(Refusal::ConditionFails),
+        Reached::Constant(k) => holds(1 <= k),
     }
 }
 
-fn judge_clash(count: u16, forms: &[i32], picks: &[u16], multipliers: &[i32]) -> Verdict
-    requires { FormsHeld unknowns count forms.now × Paired picks.now multipliers.now }
-    ensures { Judged unknowns count forms.now (CL (terms picks.now multipliers.now)) result }
+fn judge_clash(forms: Forms, picks: &[u16], multipliers: &[i32]) -> Result<(), Refusal>
+    requires { Paired picks.now multipliers.now }
+    ensures { Judged forms.entry (CL (terms picks.now multipliers.now)) result }
 {
-    if !literals::tests::all_below(picks, count) {
-        return Verdict::Fail(Refusal::NotInForce);
-    }
-    if !literals::tests::ascend(picks) {
-        return Verdict::Fail(Refusal::NotAscending);
-    }
-    if !terms_allowed(
+    judge_terms(
         forms,
         picks,
         multipliers,
         rows::IS_DIVIDED,
         rows::IS_DIVIDED,
-    ) {
-        return Verdict::Fail(Refusal::NotAllowed);
+    )?;
+    let d = contents::cells::divisor(forms.cells, picks[0]);
+    if !conditions::picked::divisors_are(forms.cells, picks, d) {
+        return Err(Refusal::NotAllowed);
     }
-    let d = contents::cells::divisor(forms, picks[0]);
-    if !conditions::picked::divisors_are(forms, picks, d) {
-        return Verdict::Fail(Refusal::NotAllowed);
-    }
-    match sums::combine(forms, picks, multipliers, d) {
-        Reached::Coefficient(_, _) => Verdict::Fail(Refusal::ConditionFails),
-        Reached::Constant(k) => {
-            if contents::exact::is_multiple(k, d) {
-                Verdict::Fail(Refusal::ConditionFails)
-            } else {
-                Verdict::Pass
-            }
-        }
+    match sums::combine(forms.cells, picks, multipliers, d) {
+        Reached::Coefficient(_, _) => Err(Refusal::ConditionFails),
+        Reached::Constant(k) => holds(!contents::exact::is_multiple(k, d)),
     }
 }
 
-pub fn farkas(
-    count: u16,
-    forms: &[i32],
-    bytes: &[u8],
-    multipliers: &mut [i32],
-    first: &mut [u16],
-    second: &mut [u16],
-) -> Proposal
-    requires { FormsHeld unknowns count forms.now × Listed behind_letters 6 1 most_terms bytes.now × (length multipliers.old ≡ most_terms) × Scratch first.old second.old }
-    ensures { ProposesSum unknowns count forms.now (FK (terms_behind behind_letters bytes.now)) result second.new }
+// FK and CL stay two functions: each has the contract of its own record. What they share is `read_terms`, `judge_terms` and `all_negated`.
+pub fn farkas(forms: Forms, bytes: &[u8], scratch: &mut Scratch) -> Result<Proposal, Refusal>
+    requires { Listed behind_letters 6 1 most_terms bytes.now }
+    ensures { ProposesRule forms.entry (FK (terms_behind behind_letters bytes.now)) result scratch.new }
 {
-    let n = read_terms(first, multipliers, bytes, BEHIND_LETTERS);
-    let v = judge_farkas(count, forms, &first[0..n], &multipliers[0..n]);
-    all_negated(v, &first[0..n], second)
+    let n = read_terms(
+        &mut scratch.first,
+        &mut scratch.cells,
+        bytes,
+        BEHIND_LETTERS,
+    );
+    let v = judge_farkas(forms, &scratch.first[..n], &scratch.cells[..n]);
+    all_negated(v, n, scratch)
 }
 
-pub fn clash(
-    count: u16,
-    forms: &[i32],
-    bytes: &[u8],
-    multipliers: &mut [i32],
-    first: &mut [u16],
-    second: &mut [u16],
-) -> Proposal
-    requires { FormsHeld unknowns count forms.now × Listed behind_letters 6 1 most_terms bytes.now × (length multipliers.old ≡ most_terms) × Scratch first.old second.old }
-    ensures { ProposesSum unknowns count forms.now (CL (terms_behind behind_letters bytes.now)) result second.new }
+pub fn clash(forms: Forms, bytes: &[u8], scratch: &mut Scratch) -> Result<Proposal, Refusal>
+    requires { Listed behind_letters 6 1 most_terms bytes.now }
+    ensures { ProposesRule forms.entry (CL (terms_behind behind_letters bytes.now)) result scratch.new }
 {
-    let n = read_terms(first, multipliers, bytes, BEHIND_LETTERS);
-    let v = judge_clash(count, forms, &first[0..n], &multipliers[0..n]);
-    all_negated(v, &first[0..n], second)
+    let n = read_terms(
+        &mut scratch.first,
+        &mut scratch.cells,
+        bytes,
+        BEHIND_LETTERS,
+    );
+    let v = judge_clash(forms, &scratch.first[..n], &scratch.cells[..n]);
+    all_negated(v, n, scratch)
 }

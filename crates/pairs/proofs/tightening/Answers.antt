@@ -1,8 +1,7 @@
 -- `pairs::tightening` meets its contract.
-use mathlib.Core.Path.{refl, sym, ◌∙◌}
+use mathlib.Core.Path.{◌≡◌, refl, sym, ◌∙◌}
 use native.Mathlib.Omega.{arith}
 use borrow.Author.Rules.{sfits_of}
-use borrow.Author.Tests.{not-true, not-false}
 use mir.Syntax.{w32}
 use mir.Val.{to_z, of_z}
 use mir.ValLaws.{to_z-of_z}
@@ -10,41 +9,46 @@ use Rattle.rows.specs.Limits.{unknowns}
 use Rattle.rows.specs.Form.{at_most}
 use Rattle.rows.specs.Conditions.{tightens}
 use Rattle.ledger.specs.Record.{TI}
+use Rattle.ledger.specs.Bytes.{i32_at}
 use Rattle.ledger.specs.Checks.{both_are, tests, makes}
-use Rattle.proposals.proofs.Making.{refusing, as_rule}
-use Rattle.rules.specs.Read.{forms_in}
+use Rattle.proposals.proofs.Making.{refusing, proposing}
+use Rattle.rules.specs.Read.{forms_read}
 use Rattle.rules.proofs.FindingWalk.{whole, past, fails, goes_on}
-use Rattle.rules.proofs.FieldLaws.{fails_first, others_decide, of_fields, both_low, both_inside, then_rows}
+use Rattle.rules.proofs.FieldLaws.{fails_first, others_decide, refused, both_low, both_inside, then_rows}
 use Rattle.pairs.proofs.tightening.Goals as goal
+use Rattle.pairs.proofs.tightening.Goals.{After-i32_at-c}
 
-pub returns-in-Fail : goal.returns-in-Fail
+-- the factor, from its bits
+factor : (c : After-i32_at-c) → to_z w32 (of_z w32 c.i32_at-c.result) ≡ i32_at c.args.bytes.now 6
+factor c = to_z-of_z w32 c.i32_at-c.result (sfits_of c.i32_at-c.type_inv) ∙ c.i32_at-c.ensures
+
+pub returns-in_err-both_are : goal.returns-in_err-both_are
 unfolding tests
-returns-in-Fail c =
-    let factor = to_z-of_z w32 c.i32_at-c.result (sfits_of c.i32_at-c.type_inv) ∙ c.i32_at-c.ensures in of_fields unknowns c.args.count c.args.forms.now _ _ _ (λ i. TI (c.u16_at-a.ensures i) (c.u16_at-b.ensures i) (factor i)) (λ ls cells. refusing
-    unknowns (forms_in unknowns c.args.count c.args.forms.now) ls (TI c.u16_at-a.result c.u16_at-b.result (to_z w32
-    (of_z w32 c.i32_at-c.result))) cells _ _ (fails_first (both_are (forms_in unknowns c.args.count c.args.forms.now) at_most
-    c.u16_at-a.result at_most c.u16_at-b.result) _ c.both_are-both.ensures c.in-Fail.is))
+returns-in_err-both_are c =
+    rw (← c.u16_at-a.ensures, ← c.u16_at-b.ensures, ← factor (goal.at.returns-in_err-both_are c).After-i32_at-c)
+    (refused c.args.forms (TI _ _ _) _ c.from_residual.ensures.1
+    (λ ls. fails_first (both_are (forms_read c.args.forms) at_most c.u16_at-a.result at_most c.u16_at-b.result) _ c.in_err-both_are.ensures))
 
 pub returns-then-not-legal_factor : goal.returns-then-not-legal_factor
 unfolding tests
 returns-then-not-legal_factor c =
-    let factor = to_z-of_z w32 c.i32_at-c.result (sfits_of c.i32_at-c.type_inv) ∙ c.i32_at-c.ensures in of_fields unknowns c.args.count c.args.forms.now _ _ _ (λ i. TI (c.u16_at-a.ensures i) (c.u16_at-b.ensures i) (factor i)) (λ ls cells. refusing
-    unknowns (forms_in unknowns c.args.count c.args.forms.now) ls (TI c.u16_at-a.result c.u16_at-b.result (to_z w32
-    (of_z w32 c.i32_at-c.result))) cells _ _ (others_decide (both_are (forms_in unknowns c.args.count c.args.forms.now) at_most
-    c.u16_at-a.result at_most c.u16_at-b.result) _ c.both_are-both.ensures c.in_default.is (fails
-    whole (sym c.legal_factor.ensures ∙ not-true _ c.if-not-legal_factor.true-raw))))
+    rw (← c.u16_at-a.ensures, ← c.u16_at-b.ensures, ← factor (goal.at.returns-then-not-legal_factor c).After-i32_at-c)
+    (λ ls. refusing unknowns (forms_read c.args.forms) ls (TI _ _ _)
+    (others_decide (both_are (forms_read c.args.forms) at_most c.u16_at-a.result at_most c.u16_at-b.result) _ c.in_ok-both_are.ensures
+    (fails whole (sym c.legal_factor.ensures ∙ c.if-not-legal_factor.true))))
 
 pub tightens-requires : goal.tightens-requires
-tightens-requires c = both_inside c.requires.0 at_most at_most c.u16_at-a.result c.u16_at-b.result c.both_are-both.ensures c.in_default.is
+tightens-requires c = both_inside c.args.forms.held at_most at_most c.u16_at-a.result c.u16_at-b.result c.in_ok-both_are.ensures
 
 pub two-requires : goal.two-requires
-two-requires c = (λ _. both_low c.requires.0 at_most at_most c.u16_at-a.result c.u16_at-b.result c.both_are-both.ensures c.in_default.is, omega arith, c.requires.2)
+two-requires c = (λ _. both_low c.args.forms.held at_most at_most c.u16_at-a.result c.u16_at-b.result c.in_ok-both_are.ensures, omega arith)
 
 pub returns : goal.returns
 unfolding tests makes
 returns c =
-    let factor = to_z-of_z w32 c.i32_at-c.result (sfits_of c.i32_at-c.type_inv) ∙ c.i32_at-c.ensures in of_fields unknowns c.args.count c.args.forms.now _ _ _ (λ i. TI (c.u16_at-a.ensures i) (c.u16_at-b.ensures i) (factor i)) (λ ls cells. as_rule
-    unknowns (forms_in unknowns c.args.count c.args.forms.now) ls (TI c.u16_at-a.result c.u16_at-b.result (to_z w32
-    (of_z w32 c.i32_at-c.result))) (others_decide (both_are (forms_in unknowns c.args.count c.args.forms.now) at_most c.u16_at-a.result at_most c.u16_at-b.result) _ c.both_are-both.ensures c.in_default.is (goes_on (past whole (sym
-    c.legal_factor.ensures ∙ not-false _ c.if-not-legal_factor.false-raw)) (then_rows c.requires.0 at_most at_most c.u16_at-a.result
-    c.u16_at-b.result c.both_are-both.ensures c.in_default.is (tightens (to_z w32 (of_z w32 c.i32_at-c.result))) c.tightens.ensures c.holds-v.ensures))) refl (c.two.ensures cells))
+    rw (← c.u16_at-a.ensures, ← c.u16_at-b.ensures, ← factor (goal.at.returns c).After-i32_at-c)
+    (λ ls. proposing unknowns (forms_read c.args.forms) ls (TI _ _ _)
+    (others_decide (both_are (forms_read c.args.forms) at_most c.u16_at-a.result at_most c.u16_at-b.result) _ c.in_ok-both_are.ensures
+    (goes_on (past whole (sym c.legal_factor.ensures ∙ c.if-not-legal_factor.false))
+    (then_rows c.args.forms.held at_most at_most c.u16_at-a.result c.u16_at-b.result c.in_ok-both_are.ensures (tightens (to_z w32 (of_z w32 c.i32_at-c.result)))
+    c.tightens.ensures c.holds-v.ensures))) refl c.two.ensures)

@@ -20,7 +20,7 @@ use Rattle.ledger.specs.Ledger.{nth_form, nth_row}
 use Rattle.ledger.specs.Record.{AR}
 use Rattle.ledger.specs.Checks.{tests}
 use Rattle.rules.specs.Read.{forms_in}
-use Rattle.rules.proofs.HeldLaws.{in_force, picked}
+use Rattle.rules.proofs.HeldLaws.{in_force}
 use Rattle.rules.proofs.FindingWalk.{whole, past, fails, passes, LeftFrom}
 use Rattle.remainders.proofs.Picks.{forms_read, divided_read, rows_read}
 use Rattle.remainders.proofs.judge_remainder.Goals as goal
@@ -28,36 +28,30 @@ use Rattle.remainders.proofs.judge_remainder.Goals.{After-are_neighbours, After-
 
 pub returns-then-not-all_below : goal.returns-then-not-all_below
 unfolding tests
-returns-then-not-all_below c = fails whole (forms_read c.requires.0 c.args.picks.now ∙ sym c.all_below.ensures ∙ not-true _ c.if-not-all_below.true-raw)
+returns-then-not-all_below c = fails whole (forms_read c.args.forms.held c.args.picks.now ∙ sym c.all_below.ensures ∙ not-true _ c.if-not-all_below.true-raw)
 
 -- every form is in force
-forms_in_lem : (c : Else-not-all_below) → let a = c.args in in_force a.count a.picks.now ≡ true
+forms_in_lem : (c : Else-not-all_below) → let a = c.args in in_force a.forms.count a.picks.now ≡ true
 forms_in_lem c = sym c.all_below.ensures ∙ not-false _ c.if-not-all_below.false-raw
 
 -- of the tests, those from the k-th on are left
 abbrev From : ℕ → Start → Type 0
-From k s = let a = s.args in LeftFrom k unknowns a.count a.forms.now (AR a.picks.now)
+From k s = let a = s.args in LeftFrom k unknowns a.forms.count a.forms.cells.now (AR a.picks.now)
 
 past1 : (c : Else-not-all_below) → From 1 (goal.at.Else-not-all_below c).Start
 unfolding tests
-past1 c = past whole (forms_read c.requires.0 c.args.picks.now ∙ forms_in_lem c)
-
-pub overflow_cast-picks : goal.overflow_cast-picks
-overflow_cast-picks c = sfits_of (omega (arith, c.requires.2))
-
-pub divisors_are-requires : goal.divisors_are-requires
-divisors_are-requires c = picked c.requires.0 c.args.picks.now (forms_in_lem c)
+past1 c = past whole (forms_read c.args.forms.held c.args.picks.now ∙ forms_in_lem c)
 
 -- there are as many forms as each divisor says
 divisors_tested : (c : After-divisors_are) →
     let a = c.args in
-    all (λ g. divided_by (pos (length a.picks.now)) (nth_form (forms_in unknowns a.count a.forms.now) g)) a.picks.now ≡ c.divisors_are.result
+    all (λ g. divided_by (pos (length a.picks.now)) (nth_form (forms_in unknowns a.forms.count a.forms.cells.now) g)) a.picks.now ≡ c.divisors_are.result
 divisors_tested c =
     let a = c.args in
     let many = length a.picks.now in
-    let fit : SFits w32 (pos many) = sfits_of (omega (arith, c.requires.2)) in
-    divided_read c.requires.0 a.picks.now (true→T (forms_in_lem (goal.at.After-divisors_are c).Else-not-all_below)) many c.requires.1
-    ∙ sym (c.divisors_are.ensures ∙ ap (λ (d : ℤ). all (λ f. eq_z (form_at unknowns a.forms.now f).divisor d) a.picks.now) (to_z-of_z w32 (pos many) fit))
+    let fit : SFits w32 (pos many) = sfits_of (omega (arith, c.requires.1)) in
+    divided_read c.args.forms.held a.picks.now (true→T (forms_in_lem (goal.at.After-divisors_are c).Else-not-all_below)) many c.requires.0
+    ∙ sym (c.divisors_are.ensures ∙ ap (λ (d : ℤ). all (λ f. eq_z (form_at unknowns a.forms.cells.now f).divisor d) a.picks.now) (to_z-of_z w32 (pos many) fit))
 
 pub returns-then-not-divisors_are : goal.returns-then-not-divisors_are
 unfolding tests
@@ -67,14 +61,11 @@ past2 : (c : Else-not-divisors_are) → From 2 (goal.at.Else-not-divisors_are c)
 unfolding tests
 past2 c = past (past1 (goal.at.Else-not-divisors_are c).Else-not-all_below) (divisors_tested (goal.at.Else-not-divisors_are c).After-divisors_are ∙ not-false _ c.if-not-divisors_are.false-raw)
 
-pub are_neighbours-requires : goal.are_neighbours-requires
-are_neighbours-requires c = (picked c.requires.0 c.args.picks.now (forms_in_lem (goal.at.are_neighbours-requires c).Else-not-all_below), c.requires.1, omega (arith, c.requires.2))
-
 rows_tested : (c : After-are_neighbours) →
     let a = c.args in
-    neighbours (map (nth_row (forms_in unknowns a.count a.forms.now)) a.picks.now) ≡ c.are_neighbours.result
+    neighbours (map (nth_row (forms_in unknowns a.forms.count a.forms.cells.now)) a.picks.now) ≡ c.are_neighbours.result
 rows_tested c =
-    ap neighbours (rows_read c.requires.0 c.args.picks.now (true→T (forms_in_lem (goal.at.After-are_neighbours c).Else-not-all_below))) ∙ sym c.are_neighbours.ensures
+    ap neighbours (rows_read c.args.forms.held c.args.picks.now (true→T (forms_in_lem (goal.at.After-are_neighbours c).Else-not-all_below))) ∙ sym c.are_neighbours.ensures
 
 pub returns-then-not-are_neighbours : goal.returns-then-not-are_neighbours
 unfolding tests

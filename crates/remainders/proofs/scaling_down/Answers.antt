@@ -4,17 +4,17 @@ use native.Mathlib.Omega.{arith}
 use Rattle.rows.specs.Limits.{unknowns}
 use Rattle.ledger.specs.Record.{SD}
 use Rattle.ledger.specs.Checks.{tests, makes}
-use Rattle.proposals.proofs.Making.{as_rule}
-use Rattle.rules.proofs.FieldLaws.{low_two, of_fields}
+use Rattle.proposals.proofs.Making.{proposing}
+use Rattle.rules.specs.Read.{forms_read}
+use Rattle.rules.proofs.FieldLaws.{low_two}
 use Rattle.remainders.proofs.scaling_down.Goals as goal
 
 pub two-requires : goal.two-requires
-two-requires c = (λ e. let (g, h) = low_two c.requires.0 _ _ _ c.judge_scaling-v.ensures e in (h, g), omega arith, c.requires.2)
+unfolding tests
+two-requires c = (λ e. let (g, h) = low_two c.args.forms.held _ _ _ c.judge_scaling-v.ensures e in (h, g), omega arith)
 
 pub returns : goal.returns
 unfolding tests makes
 returns c =
-    let a = c.args in
-    of_fields unknowns a.count a.forms.now _ _ _
-    (λ i. SD (c.u16_at-g.ensures i) (c.u16_at-h.ensures i) (c.u16_at-k.ensures i))
-    (λ ls cells. as_rule unknowns _ ls _ c.judge_scaling-v.ensures refl (c.two.ensures cells))
+    rw (← c.u16_at-g.ensures, ← c.u16_at-h.ensures, ← c.u16_at-k.ensures)
+    (λ ls. proposing unknowns (forms_read c.args.forms) ls (SD _ _ _) c.judge_scaling-v.ensures refl c.two.ensures)

@@ -1,12 +1,22 @@
 -- `rules::entries::premise` meets its contract.
-use native.Mathlib.Nat.{sub-zero}
-use native.Mathlib.Omega.{arith}
+use Prim.Native.Nat.{◌≤◌}
+use lib.ListN.{length}
+use Rattle.std.proofs.Common.{rules}
+use Rattle.std.proofs.lemmas.Result.{err_from_is_err_and}
 use Rattle.rows.specs.Limits.{unknowns}
-use Rattle.rules.proofs.FieldLaws.{premise_refused, premise_made}
+use Rattle.ledger.specs.Record.{PM}
+use Rattle.ledger.specs.Checks.{tests}
+use Rattle.proposals.proofs.Making.{refusing}
+use Rattle.rules.proofs.FieldLaws.{premise_made}
 use Rattle.rules.proofs.entries.premise.Goals as goal
 
-pub returns-in-Fail : goal.returns-in-Fail
-returns-in-Fail c = λ fs ls cells xs e. rw (← c.read_numbers-n.ensures.read) (premise_refused unknowns fs ls cells xs _ _ c.in-Fail.is (simp sub-zero at (c.judge_premise-v.ensures fs e)))
+pub returns-in_err-judge_premise : goal.returns-in_err-judge_premise
+unfolding tests
+returns-in_err-judge_premise c = λ fs ls e.
+    let p = err_from_is_err_and c.from_residual.result c.from_residual.ensures.1 in
+    rw (p.1, p.2, ← c.read_numbers-n.ensures.read) (refusing unknowns fs ls (PM _) (c.in_err-judge_premise.ensures fs e))
 
 pub returns : goal.returns
-returns c = λ fs ls cells xs e. rw (c.premise.ensures, ← c.read_numbers-n.ensures.read) (premise_made unknowns fs ls cells xs _ c.read_numbers-n.result c.in_default.is (omega (arith, c.read_numbers-n.ensures.few, c.requires.1)) (simp sub-zero at (c.judge_premise-v.ensures fs e)))
+returns c = λ fs ls e.
+    let room : c.read_numbers-n.result ≤ length c.read_numbers-n.new.cells = search rules in
+    rw (c.premise.ensures, ← c.read_numbers-n.ensures.read) (premise_made fs ls c.read_numbers-n.result room (c.in_ok-judge_premise.ensures fs e))

@@ -2,9 +2,6 @@
 use mathlib.Core.Path.{◌≡◌, sym, ap, ◌∙◌}
 use mathlib.Core.List.{List}
 use Prim.Native.Nat.{ℕ, suc}
-use lib.IntN.{ℤ}
-use lib.ListN.{length}
-use Rattle.rows.specs.Limits.{most_terms}
 use Rattle.ledger.specs.Record.{RecordMark}
 use Rattle.ledger.specs.Apply.{fail, finding}
 use Rattle.ledger.proofs.Findings.{in_two_steps}
@@ -16,9 +13,10 @@ use Rattle.laid.specs.Held.{Held}
 use Rattle.laid.proofs.OrderLaid.{in_pool}
 use Rattle.laid.proofs.HeldLaws.{held_clauses}
 use Rattle.records.specs.Marks.{OfMark}
-use Rattle.rules.specs.Read.{FormsHeld, forms_in, LinesHeld, lines_in}
-use Rattle.proposals.specs.Proposing.{Scratch}
-use Rattle.propose.specs.Ready.{Ready}
+use Rattle.rules.specs.Held.{FormsHeld, LinesHeld}
+use Rattle.rules.specs.Read.{forms_in, lines_in}
+use Rattle.std.specs.Prelude.{Result}
+use Rattle.session.specs.declared.answers.Refusal.{Refusal}
 use Rattle.settle.specs.declared.Change.{Change}
 use Rattle.settle.specs.declared.Top.{Top}
 use Rattle.laid.specs.Result.{unchanged, settled}
@@ -47,7 +45,7 @@ module _ (n : ℕ) (s : Session) (t : Tables) (b : List ℕ) where
   stepped_wrong e = rw e
 
   -- what bytes that bear a mark propose, settled
-  stepped_settled : {p : Proposal} {c : Change} {t' : Tables} (m : RecordMark) → OfMark b m
+  stepped_settled : {p : Proposal} {c : Result Change Refusal} {t' : Tables} (m : RecordMark) → OfMark b m
       → p ≡ proposed n (forms_in n s.forms t.forms) (lines_in s.lines t.pool t.lines) (fields b m)
       → Gives n s t (settles (ledger_of n s t) p) c t' → result_by s c t' ≡ stepped n s t b
   unfolding stepped apply_bytes decode ledger_of
@@ -59,12 +57,13 @@ module _ (n : ℕ) (s : Session) (t : Tables) (b : List ℕ) where
 
 -- by what is seen of a session
 module _ {n : ℕ} {top : Top} {t : Tables} where
-  pub seen_ready : {cells : List ℤ} {xs ys : List ℕ} → Seen n top t → length cells ≡ most_terms → Scratch xs ys
-      → Ready n top.counts.forms top.counts.lines t.forms t.pool t.lines cells xs ys
-  seen_ready v c x =
-      rw (← v.seen) (record { in_form_table = held_forms v.held; in_line_table = held_lines v.held; numbers = c; scratch = x })
+  pub seen_forms : Seen n top t → FormsHeld n top.counts.forms t.forms
+  seen_forms v = rw (← v.seen) (held_forms v.held)
 
-  pub settled_changes : {p : Proposal} {c : Change} {t' : Tables} (b : List ℕ) (m : RecordMark) → OfMark b m
+  pub seen_lines : Seen n top t → LinesHeld top.counts.lines t.pool t.lines
+  seen_lines v = rw (← v.seen) (held_lines v.held)
+
+  pub settled_changes : {p : Proposal} {c : Result Change Refusal} {t' : Tables} (b : List ℕ) (m : RecordMark) → OfMark b m
       → p ≡ proposed n (forms_in n top.counts.forms t.forms) (lines_in top.counts.lines t.pool t.lines) (fields b m)
       → Settles n top t p c t' → Changes n top t b c t'
   settled_changes b m o e g s same h =

@@ -5,14 +5,14 @@ ghost use Rattle.session.specs.Cells.{Tables};
 ghost use Rattle.laid.specs.Result.{unchanged};
 ghost use Rattle.checker.specs.Feed.{result_of};
 
-use session::answers::{Answer, Refusal};
+use session::answers::{Made, Refusal};
 use session::state::Session;
 
 // The session afterwards, and the answer.
 #[derive(Clone, Copy)]
 pub struct Fed {
     pub session: Session,
-    pub answer: Answer,
+    pub answer: Result<Made, Refusal>,
 }
 
 pub fn refuse(s: Session, why: Refusal) -> Fed
@@ -20,6 +20,6 @@ pub fn refuse(s: Session, why: Refusal) -> Fed
 {
     Fed {
         session: s,
-        answer: Answer::Refused(why),
+        answer: Err(why),
     }
 }

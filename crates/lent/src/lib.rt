@@ -5,7 +5,7 @@ ghost use Rattle.session.specs.Cells.{tables};
 ghost use Rattle.checker.specs.Feed.{Feeds};
 
 use checker::keep::Fed;
-use session::answers::Answer;
+use session::answers::{Made, Refusal};
 use session::state::Session;
 
 // One record, of any bytes, on any session and any tables.
@@ -15,7 +15,7 @@ pub fn feed_lent(
     pool: &mut [u16],
     lines: &mut [u16],
     bytes: &[u8],
-) -> Answer
+) -> Result<Made, Refusal>
     ensures { Feeds session.old (tables forms.old pool.old lines.old) bytes.now (record { session = session.new; answer = result }) (tables forms.new pool.new lines.new) }
 {
     let before = *session;

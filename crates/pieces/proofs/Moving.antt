@@ -1,44 +1,35 @@
--- A part of a buffer that is moved to its front, one byte at a time.
-use Rattle.std.proofs.Common.{◌≡◌, ℕ, ◌+◌, ◌-◌, ◌<◌, ◌≤◌, List, [], ◌++◌, length, get_or, take, drop, set, sym, refl, ap, ◌∙◌, append-nil, add-one, arith, length-set, take-append-drop, drop_of_length-le, length-take-le, get_or-drop, drop-drop, take-suc-set, drop-set-lt}
-use lib.Seq.{append_snoc, slice, slice-cons}
+-- A part of a buffer that is moved to its front is what is kept of it.
+use Rattle.std.proofs.Common.{◌≡◌, ℕ, ◌+◌, ◌-◌, ◌≤◌, List, length, take, drop, sym, ap, ◌∙◌, arith, length-drop, length-take-le, drop_of_length-le, ⊎_elim, min}
+use Rattle.std.proofs.lemmas.List.{drop-take}
+use Rattle.std.proofs.lemmas.Bool.{cases_lt}
+use Rattle.std.proofs.Math.Nat.{min-eq_left, min-eq_right}
+use Rattle.std.specs.List.{copy_within}
 use Rattle.pieces.specs.Parts.{Kept}
 
--- of what lies from one place up to another in b, the bytes before i are moved to the front of x, and nothing behind them has changed
-pub record Moving (b : List ℕ) (from to : ℕ) (x : List ℕ) (held i : ℕ) : Type 0 where
-  pub size : length x ≡ length b
-  pub ahead : held ≤ i
-  pub within : held ≤ to
-  pub front : take held x ++ slice i to b ≡ slice from to b
-  pub behind : drop held x ≡ drop held b
+module _ (b : List ℕ) (to : ℕ) (fits : to ≤ length b) where
+  long : (i : ℕ) → length (drop i (take to b)) ≡ to - i
+  long i = length-drop i (take to b) ∙ ap (λ (n : ℕ). n - i) (length-take-le to b fits)
 
-pub sets_out : (b : List ℕ) (from to : ℕ) → Moving b from to b 0 from
-sets_out b from to = record { size = refl; ahead = omega arith; within = omega arith; front = refl; behind = refl }
-
-module _ {b : List ℕ} {from to : ℕ} {x : List ℕ} {held i : ℕ} (m : Moving b from to x held i) (fits : to ≤ length b) where
-  same_byte : get_or x i 0 ≡ get_or b i 0
-  same_byte =
-      let e : held + (i - held) ≡ i = omega (arith, m.ahead) in
-      let there = ap (λ (y : List ℕ). get_or y (i - held) 0) m.behind in
-      rw (get_or-drop held x (i - held) 0, get_or-drop held b (i - held) 0, e) at there
-
-  pub one_more : i < to → Moving b from to (set x held (get_or x i 0)) (held + 1) (i + 1)
-  one_more h =
-      let room : held < length x = omega (arith, m.size, m.ahead) in
+  -- from a place up to another
+  kept : (first : ℕ) → first ≤ to → Kept (drop first (take to b)) b (to - first) (copy_within b first to 0)
+  kept first h =
+      let whole : first + (to - first) ≡ to = omega arith in
+      let start : 0 + (to - first) ≡ to - first = omega arith in
       record {
-        size = length-set x held (get_or x i 0) ∙ m.size;
-        ahead = omega (arith, m.ahead);
-        within = omega (arith, m.ahead);
-        front =
-            rw (add-one held, add-one i, take-suc-set x held (get_or x i 0) room, append_snoc, same_byte)
-            (rw (slice-cons i to b 0 h fits) at m.front);
-        behind =
-            rw (drop-set-lt (held + 1) x held (get_or x i 0) (omega arith), ← drop-drop 1 held x, m.behind)
-            (drop-drop 1 held b);
+        size = sym (long first);
+        front = rw (long first, start, rw whole at (sym (drop-take first (to - first) b)));
       }
 
-  pub arrives : to ≤ i → Kept (slice from to b) b held x
-  arrives h =
-      let none : slice i to b ≡ [] = drop_of_length-le (take to b) {i = i} (rw (length-take-le to b fits) h) in
-      let all : take held x ≡ slice from to b = rw (none, append-nil) at m.front in
-      let long : held ≡ length (slice from to b) = rw (← all) (sym (length-take-le held x (omega (arith, m.size, m.within)))) in
-      record { size = long; front = rw (← long, ← all, ← m.behind) (sym (take-append-drop held x)) }
+  -- nothing lies from a place up to one before it
+  none_kept : (from : ℕ) → to ≤ from → drop from (take to b) ≡ drop to (take to b)
+  none_kept from h =
+      let all : length (take to b) ≡ to = length-take-le to b fits in
+      drop_of_length-le (take to b) {i = from} (omega arith) ∙ sym (drop_of_length-le (take to b) {i = to} (omega arith))
+
+  -- and so from the lesser of two places up to the second
+  pub kept_from : (from first : ℕ) → first ≡ min from to → Kept (drop from (take to b)) b (to - first) (copy_within b first to 0)
+  kept_from from first e =
+      ⊎_elim
+      (λ l. let f : first ≡ from = e ∙ min-eq_left (omega arith) in rw f (kept from (omega arith)))
+      (λ l. let f : first ≡ to = e ∙ min-eq_right l in rw (none_kept from l, f) (kept to (omega arith)))
+      (cases_lt from to)

@@ -12,10 +12,9 @@ use Rattle.pieces.specs.Parts.{Holding, Kept}
 module _ (n : ℕ) (s : Session) (t : Tables) (buffer : List ℕ) (count : ℕ) (last : Bool) (r : Ran) (t' : Tables) where
   pub stepped : {end : ℕ} → Holding count buffer end → totals_of r t' ≡ run n s t (take end buffer)
       → {kept : ℕ} {x : List ℕ} → Kept (drop r.bytes (take end buffer)) buffer kept x
-      → {number : ℕ} → number ≡ stop_number (finding_of r.stop)
-      → (v : code.Next) → next_of v ≡ next_by number last kept
+      → (v : code.Next) → next_of v ≡ next_by (stop_number (finding_of r.stop)) last kept
       → (k c : ℕ) {records bytes : ℕ} → records ≡ total (k + r.records) → bytes ≡ total (c + r.bytes)
       → step_of (record { progress = record { session = r.session; records = records; bytes = bytes }; next = v }) t' x ≡ step n k c s t buffer count last
   unfolding step
-  stepped h e {kept} {x} m {number} i v f k c p q =
-      rw (← h.held, ← e, p, q, f, i, m.size, m.front)
+  stepped h e {kept} {x} m v f k c p q =
+      rw (← h.held, ← e, p, q, f, m.size, m.front)

@@ -4,7 +4,8 @@ use Rattle.std.specs.Prelude.{◌≡◌, ℕ, ◌+◌, ◌%◌, ◌^◌, Bool, c
 use Rattle.rows.specs.Limits.{unknowns}
 use Rattle.session.specs.declared.state.Session.{Session}
 use Rattle.session.specs.Cells.{Tables}
-use Rattle.stream.specs.Run.{Totals, run}
+use Rattle.session.specs.Answers.{finding_of}
+use Rattle.stream.specs.Run.{Totals, run, stop_number}
 use Rattle.pieces.specs.declared.Next.TheVariants.{GoesOn, Decided}
 use Rattle.pieces.specs.declared.Progress.{Progress}
 use Rattle.pieces.specs.declared.Judged.{Judged}
@@ -60,7 +61,7 @@ step n records bytes s t buffer count last =
 
 abbrev pub next_of : code.Next → Next
 next_of (GoesOn kept) = goes_on kept
-next_of (Decided stop) = decided stop
+next_of (Decided stop) = decided (stop_number (finding_of stop))
 
 abbrev pub step_of : Judged → Tables → List ℕ → Step
 step_of r t buffer =

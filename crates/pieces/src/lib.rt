@@ -1,14 +1,14 @@
 // A proof file that is judged in pieces, each of them in one buffer behind what the piece before it left unread.
 #![tactic(auto)]
 
-ghost use Rattle.std.specs.Prelude.{◌≡◌, ◌≤◌, length, take, drop};
+ghost use Rattle.std.specs.Prelude.{◌≤◌, ◌≡◌, length, take, drop};
 ghost use Rattle.session.specs.Answers.{finding_of};
 ghost use Rattle.session.specs.Cells.{tables};
 ghost use Rattle.stream.specs.Run.{stop_number};
 ghost use Rattle.pieces.specs.Step.{next_by, next_of, Judges};
 ghost use Rattle.pieces.specs.Parts.{Holding, Kept};
 
-use session::answers::Verdict;
+use session::answers::Refusal;
 use session::state::Session;
 use std::num::wrapping_add_u64;
 
@@ -20,11 +20,12 @@ pub struct Progress {
     pub bytes: u64,
 }
 
-// The file goes on behind so many bytes, which stay at the buffer's front; or it is decided, by its stopping number.
+// The file goes on behind so many bytes, which stay at the buffer's front; or it is decided: accepted to its end, or stopped by a refusal. Neither
+// is a failure of the call.
 #[derive(Clone, Copy)]
 pub enum Next {
     GoesOn(usize),
-    Decided(u16),
+    Decided(Result<(), Refusal>),
 }
 
 #[derive(Clone, Copy)]
@@ -38,47 +39,29 @@ fn keep(buffer: &mut [u8], from: usize, to: usize) -> usize
     requires { to ≤ length buffer.old }
     ensures { Kept (drop from (take to buffer.old)) buffer.old result buffer.new }
 {
-    let mut held: usize = 0;
-    let mut i = from;
-    while i < to {
-        buffer[held] = buffer[i];
-        held += 1;
-        i += 1;
-    }
-    held
-}
-
-// The number of what stopped a run, 0 where it came to its end.
-fn number_of(stop: Verdict) -> u16
-    ensures { result ≡ stop_number (finding_of stop) }
-{
-    match stop {
-        Verdict::Pass => 0,
-        Verdict::Fail(why) => session::answers::number(why),
-    }
+    let first = from.min(to);
+    buffer.copy_within(first..to, 0);
+    to - first
 }
 
 // More bytes may still change a stop at the end, and one at a record that is cut off.
-fn next_by(stop: u16, last: bool, kept: usize) -> Next
-    ensures { next_of result ≡ next_by stop last kept }
+fn next_by(stop: Result<(), Refusal>, last: bool, kept: usize) -> Next
+    ensures { next_of result ≡ next_by (stop_number (finding_of stop)) last kept }
 {
     if last {
         return Next::Decided(stop);
     }
-    if stop == 0 || stop == 3 {
-        return Next::GoesOn(kept);
+    match stop {
+        Ok(()) | Err(Refusal::WrongLength) => Next::GoesOn(kept),
+        _ => Next::Decided(stop),
     }
-    Next::Decided(stop)
 }
 
 // A count that no buffer has stands for all its bytes.
 fn holding(buffer: &[u8], count: usize) -> usize
     ensures { Holding count buffer.now result }
 {
-    if count < buffer.len() {
-        return count;
-    }
-    buffer.len()
+    count.min(buffer.len())
 }
 
 // The bytes that the buffer holds, count of them or all that it has, which may be the file's last. Whatever is lent, nothing has to be
@@ -99,14 +82,12 @@ pub fn judge_piece(
     let ran = stream::run(progress.session, forms, pool, lines, held);
     let kept = keep(buffer, ran.bytes, end);
     let session = ran.session;
-    let stop = ran.stop;
-    let number = number_of(stop);
     Judged {
         progress: Progress {
             session,
             records: wrapping_add_u64(progress.records, ran.records as u64),
             bytes: wrapping_add_u64(progress.bytes, ran.bytes as u64),
         },
-        next: next_by(number, last, kept),
+        next: next_by(ran.stop, last, kept),
     }
 }

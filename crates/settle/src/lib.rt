@@ -9,11 +9,11 @@ ghost use Rattle.ledger.specs.Settles.{opens, withdraws};
 ghost use Rattle.session.specs.Limits.{form_cells, form_table};
 ghost use Rattle.session.specs.Cells.{Tables, tables};
 ghost use Rattle.session.specs.Answers.{answer_of};
-ghost use Rattle.proposals.specs.Proposing.{proposal_of, Fits};
+ghost use Rattle.proposals.specs.Proposing.{proposal_of, FitsIfMade};
 ghost use Rattle.settle.specs.Settling.{with_counts, with_levels, after, answer_by, InPlace, Seen, Settles, LineTables, KeepsForm, KeepsLine};
 
-use proposals::Proposal;
-use session::answers::{Answer, Made, Refusal};
+use proposals::{Proposal, Scratch};
+use session::answers::{Made, Refusal};
 use session::state::{Mark, Session};
 
 // What a record can change of a session: the counts, the count of open levels and the last of their marks (where none is open, mark 0).
@@ -33,10 +33,9 @@ pub struct Levels {
     pub mark: Mark,
 }
 
-// What settling does to a session: nothing; a form or a line more, with the counts then; or a level more or less.
+// What settling does to a session: a form or a line more, with the counts then; or a level more or less.
 #[derive(Clone, Copy)]
 pub enum Change {
-    Refused(Refusal),
     Adds(Made, Mark),
     Moves(Levels),
 }
@@ -45,32 +44,19 @@ pub enum Change {
 pub fn last_place(levels: u16) -> usize
     ensures { result ≡ levels - 1 }
 {
-    if levels == 0 {
-        return 0;
-    }
-    (levels - 1) as usize
-}
-
-// The answer.
-pub fn answer_of(c: Change) -> Answer
-    ensures { answer_of result ≡ answer_by c }
-{
-    match c {
-        Change::Refused(why) => Answer::Refused(why),
-        Change::Adds(made, _) => Answer::Accepted(made),
-        Change::Moves(to) => Answer::Accepted(Made::Level(to.open)),
-    }
+    levels.saturating_sub(1) as usize
 }
 
 // The session with other counts.
 fn counted(s: Session, counts: Mark) -> Session
     ensures { result ≡ with_counts s counts }
 {
-    let mut next = s;
-    next.forms = counts.forms;
-    next.lines = counts.lines;
-    next.literals = counts.literals;
-    next
+    Session {
+        forms: counts.forms,
+        lines: counts.lines,
+        literals: counts.literals,
+        ..s
+    }
 }
 
 // The session with other levels.
@@ -78,38 +64,42 @@ fn levelled(s: Session, to: Levels) -> Session
     requires { to.at < most_levels }
     ensures { result ≡ with_levels s to }
 {
-    let at = to.at;
-    let counts = to.counts;
-    let mark = to.mark;
-    let mut next = s;
-    next.forms = counts.forms;
-    next.lines = counts.lines;
-    next.literals = counts.literals;
+    let mut next = counted(s, to.counts);
     next.open = to.open;
-    next.marks[at] = mark;
+    next.marks[to.at] = to.mark;
     next
 }
 
-// The session afterwards.
-pub fn apply_to(s: Session, c: Change) -> Session
+// What is answered where this is what settling does, or why it does nothing.
+pub fn answer_of(c: Result<Change, Refusal>) -> Result<Made, Refusal>
+    ensures { answer_of result ≡ answer_by c }
+{
+    match c? {
+        Change::Adds(made, _) => Ok(made),
+        Change::Moves(to) => Ok(Made::Level(to.open)),
+    }
+}
+
+// The session afterwards, which a refusal leaves as it was.
+pub fn apply_to(s: Session, c: Result<Change, Refusal>) -> Session
     requires { InPlace c }
     ensures { result ≡ after s c }
 {
     match c {
-        Change::Refused(_) => s,
-        Change::Adds(_, counts) => counted(s, counts),
-        Change::Moves(to) => levelled(s, to),
+        Ok(Change::Adds(_, counts)) => counted(s, counts),
+        Ok(Change::Moves(to)) => levelled(s, to),
+        Err(_) => s,
     }
 }
 
 // One form more.
-fn keep_form(top: Top, forms: &mut [i32], cells: &[i32]) -> Change
+fn keep_form(top: Top, forms: &mut [i32], cells: &[i32]) -> Result<Change, Refusal>
     requires { (length forms.old ≡ form_table unknowns) × (length cells.now ≡ form_cells unknowns) }
     ensures { KeepsForm unknowns top forms.old cells.now result forms.new }
 {
     let counts = top.counts;
     if Session::MOST_FORMS <= counts.forms as usize {
-        return Change::Refused(Refusal::NoRoom);
+        return Err(Refusal::NoRoom);
     }
     writes::add_form(counts.forms, forms, cells);
     let made = Made::Form(counts.forms);
@@ -118,7 +108,7 @@ fn keep_form(top: Top, forms: &mut [i32], cells: &[i32]) -> Change
         lines: counts.lines,
         literals: counts.literals,
     };
-    Change::Adds(made, more)
+    Ok(Change::Adds(made, more))
 }
 
 // One line more: the literals of a and b, joined.
@@ -129,17 +119,17 @@ fn keep_line(
     a: &[u16],
     b: &[u16],
     origin: u16,
-) -> Change
+) -> Result<Change, Refusal>
     requires { LineTables top pool.old lines.old }
     ensures { KeepsLine unknowns top pool.old lines.old (record { origin = origin; literals = joined a.now b.now }) result pool.new lines.new }
 {
     let counts = top.counts;
     if Session::MOST_LINES <= counts.lines as usize {
-        return Change::Refused(Refusal::NoRoom);
+        return Err(Refusal::NoRoom);
     }
     let free = Session::MOST_LITERALS - counts.literals as usize;
     if literals::join::longer_than(a, b, free) {
-        return Change::Refused(Refusal::NoRoom);
+        return Err(Refusal::NoRoom);
     }
     let end = writes::add_line(counts.lines, counts.literals, pool, lines, a, b, origin);
     let made = Made::Line(counts.lines);
@@ -148,70 +138,73 @@ fn keep_line(
         lines: counts.lines + 1,
         literals: end,
     };
-    Change::Adds(made, more)
+    Ok(Change::Adds(made, more))
 }
 
 // One level more: its mark is the present counts.
-fn open_level(top: Top) -> Change
+fn open_level(top: Top) -> Result<Change, Refusal>
     requires { top.«open» ≤ most_levels }
     ensures { (t : Tables) → Settles unknowns top t opens result t }
 {
     if Session::MOST_LEVELS <= top.open as usize {
-        return Change::Refused(Refusal::NoRoom);
+        return Err(Refusal::NoRoom);
     }
     let counts = top.counts;
-    Change::Moves(Levels {
+    Ok(Change::Moves(Levels {
         counts,
         open: top.open + 1,
         at: top.open as usize,
         mark: counts,
-    })
+    }))
 }
 
 // One level less: the counts return to the last mark, and every freed cell and the mark become 0.
-fn close_level(top: Top, forms: &mut [i32], pool: &mut [u16], lines: &mut [u16]) -> Change
+fn close_level(
+    top: Top,
+    forms: &mut [i32],
+    pool: &mut [u16],
+    lines: &mut [u16],
+) -> Result<Change, Refusal>
     requires { Seen unknowns top (tables forms.old pool.old lines.old) }
     ensures { Settles unknowns top (tables forms.old pool.old lines.old) withdraws result (tables forms.new pool.new lines.new) }
 {
     if top.open == 0 {
-        return Change::Refused(Refusal::NoLevelOpen);
+        return Err(Refusal::NoLevelOpen);
     }
     let last = top.last;
     let counts = top.counts;
     writes::free_cells(last, counts, forms, pool, lines);
-    Change::Moves(Levels {
+    Ok(Change::Moves(Levels {
         counts: last,
         open: top.open - 1,
         at: (top.open - 1) as usize,
-        mark: Mark {
-            forms: 0,
-            lines: 0,
-            literals: 0,
-        },
-    })
+        mark: Mark::default(),
+    }))
 }
 
-// A proposal on tables that are cut to their named cells and in order, with the cells of its form and the two lists of its line.
+// A proposal, or the refusal that stands for it, on tables that are cut to their named cells and in order, with the scratch that holds the cells
+// of its form or the two lists of its line.
 pub fn settle(
     top: Top,
     forms: &mut [i32],
     pool: &mut [u16],
     lines: &mut [u16],
-    p: Proposal,
-    cells: &[i32],
-    first: &[u16],
-    second: &[u16],
-) -> Change
-    requires { Seen unknowns top (tables forms.old pool.old lines.old) × (length cells.now ≡ form_cells unknowns) × Fits p first.now second.now }
-    ensures { Settles unknowns top (tables forms.old pool.old lines.old) (proposal_of p cells.now first.now second.now) result (tables forms.new pool.new lines.new) }
+    p: Result<Proposal, Refusal>,
+    scratch: &Scratch,
+) -> Result<Change, Refusal>
+    requires { Seen unknowns top (tables forms.old pool.old lines.old) × FitsIfMade p scratch.now }
+    ensures { Settles unknowns top (tables forms.old pool.old lines.old) (proposal_of p scratch.now) result (tables forms.new pool.new lines.new) }
 {
-    match p {
-        Proposal::Refused(why) => Change::Refused(why),
-        Proposal::Form => keep_form(top, forms, cells),
+    let made = match p {
+        Ok(made) => made,
+        Err(why) => return Err(why),
+    };
+    match made {
+        Proposal::Form => keep_form(top, forms, &scratch.cells[..Session::FORM_CELLS]),
         Proposal::Line(line) => {
-            let n = line.first;
-            let m = line.second;
-            keep_line(top, pool, lines, &first[0..n], &second[0..m], line.origin)
+            let a = &scratch.first[..line.first];
+            let b = &scratch.second[..line.second];
+            keep_line(top, pool, lines, a, b, line.origin)
         }
         Proposal::Opens => open_level(top),
         Proposal::Withdraws => close_level(top, forms, pool, lines),

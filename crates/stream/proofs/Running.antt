@@ -7,6 +7,7 @@ use native.Mathlib.Nat.{sub-zero}
 use native.Mathlib.Omega.{arith}
 use lib.ListN.{length, take, drop, length-drop, drop_of_length-le}
 use lib.Seq.{length-take-le, take_all, take-length, drop-drop}
+use Rattle.std.specs.Prelude.{Result, Err}
 use Rattle.ints.proofs.Bools.{never}
 use Rattle.ledger.specs.Limits.{most_levels}
 use Rattle.ledger.specs.Ledger.{Ledger}
@@ -25,9 +26,9 @@ use Rattle.session.specs.Calls.{entry}
 use Rattle.laid.specs.Held.{Held}
 use Rattle.records.specs.Marks.{Whole}
 use Rattle.settle.specs.declared.Change.{Change}
-use Rattle.settle.specs.declared.Change.TheVariants.{Refused}
 use Rattle.settle.specs.declared.Top.{Top}
-use Rattle.laid.specs.Result.{Result, unchanged, settled}
+use Rattle.laid.specs.Result as laid
+use Rattle.laid.specs.Result.{unchanged, settled}
 use Rattle.settle.specs.Settling.{after, answer_by, InPlace, result_by, top_of}
 use Rattle.checker.specs.Feed.{stepped, feed}
 use Rattle.checker.specs.Changes.{Changes}
@@ -40,9 +41,9 @@ use Rattle.checker.proofs.Settled.{stepped_wrong}
 
 -- ---- one record more
 
-module _ (call : Session → Tables → List ℕ → Result) (k c : ℕ) (s : Session) (t : Tables) (b : List ℕ) (bs : List (List ℕ)) where
+module _ (call : Session → Tables → List ℕ → laid.Result) (k c : ℕ) (s : Session) (t : Tables) (b : List ℕ) (bs : List (List ℕ)) where
   -- the run from b on, by what b gives
-  next : Result → Totals
+  next : laid.Result → Totals
   next r =
       elim r.answer [
         | accepted m ↦ each_by call (k + 1) (c + length b) r.session r.tables bs
@@ -81,7 +82,7 @@ each_beside n k c s t x (b ∷ bs) h =
     let r = stepped n s t b in
     ap (next (feed n) k c s (with_excess t x) b bs) (feed_beside h x b) ∙ (go r.answer (each_beside n (k + 1) (c + length b) r.session r.tables x bs (held_again h b)))
   where
-    r : Result
+    r : laid.Result
     r = stepped n s t b
 
     go : (a : Answer)
@@ -101,7 +102,7 @@ each_beside n k c s t x (b ∷ bs) h =
 -- ---- the front of what is left
 
 module _ {n : ℕ} {top : Top} {t : Tables} {b : List ℕ} where
-  pub wrong_front : {why : Refusal} → Misshapen b (number_of why) → FrontStep n top t b (Refused why) (length b) t
+  pub wrong_front : {why : Refusal} → Misshapen b (number_of why) → FrontStep n top t b (Err why) (length b) t
   wrong_front {why} w =
       record {
         within = omega arith;
@@ -109,7 +110,7 @@ module _ {n : ℕ} {top : Top} {t : Tables} {b : List ℕ} where
         changes = λ s e h. record { result = rw (take-length b) (sym (stepped_wrong n s t b w.failed)); place = tt };
       }
 
-  pub whole_front : {m : RecordMark} {c : Change} {size : ℕ} {t' : Tables} → Whole b m size → Changes n top t (take (size - 0) b) c t'
+  pub whole_front : {m : RecordMark} {c : Result Change Refusal} {size : ℕ} {t' : Tables} → Whole b m size → Changes n top t (take (size - 0) b) c t'
       → FrontStep n top t b c size t'
   whole_front {m} {c} {size} {t'} w f =
       record { within = w.within; taken = w.taken; changes = subst (λ (k : ℕ). Changes n top t (take k b) c t') (sub-zero size) f }
@@ -163,15 +164,15 @@ module _ {n : ℕ} {s : Session} {t : Tables} {b : List ℕ} {k c : ℕ} {s' : S
   arrives h = ap (λ (d : List ℕ). each_by (stepped n) k c s' t' (records_of d)) (sym (drop_of_length-le b h)) ∙ u.same
 
 -- what a turn of the loop does, by the change that the front record of what is left makes
-pub record Turn (n : ℕ) (s : Session) (t : Tables) (b : List ℕ) (k c : ℕ) (s' : Session) (x : Change) (size : ℕ) (t'' : Tables) : Type 0 where
+pub record Turn (n : ℕ) (s : Session) (t : Tables) (b : List ℕ) (k c : ℕ) (s' : Session) (x : Result Change Refusal) (size : ℕ) (t'' : Tables) : Type 0 where
   pub forward : 0 < size
   pub within : c + size ≤ length b
   pub place : InPlace x
   pub held : Held n (after s' x) t''
-  pub stops : {why : Refusal} → x ≡ Refused why → totals k c (number_of why) s' t'' ≡ each_by (stepped n) 0 0 s t (records_of b)
-  pub goes : {y : Change} {m : Made} {s'' : Session} → x ≡ y → result_by s' y t'' ≡ changed m s'' t'' → Underway n s t b (k + 1) (c + size) s'' t''
+  pub stops : {why : Refusal} → x ≡ Err why → totals k c (number_of why) s' t'' ≡ each_by (stepped n) 0 0 s t (records_of b)
+  pub goes : {y : Result Change Refusal} {m : Made} {s'' : Session} → x ≡ y → result_by s' y t'' ≡ changed m s'' t'' → Underway n s t b (k + 1) (c + size) s'' t''
 
-pub turns : {n : ℕ} {s : Session} {t : Tables} {b : List ℕ} {k c : ℕ} {s' : Session} {t' : Tables} {top : Top} {x : Change} {size : ℕ} {t'' : Tables}
+pub turns : {n : ℕ} {s : Session} {t : Tables} {b : List ℕ} {k c : ℕ} {s' : Session} {t' : Tables} {top : Top} {x : Result Change Refusal} {size : ℕ} {t'' : Tables}
     → Underway n s t b k c s' t' → c < length b → FrontStep n top t' (take (length b - c) (drop c b)) x size t'' → top_of s' ≡ top
     → Turn n s t b k c s' x size t''
 turns {n} {s} {t} {b} {k} {c} {s'} {t'} {top} {x} {size} {t''} u more f e =
@@ -181,7 +182,7 @@ turns {n} {s} {t} {b} {k} {c} {s'} {t'} {top} {x} {size} {t''} u more f e =
     let (first, forward) = records_left d size (rw (length-drop c b) (omega arith)) left.within left.taken in
     let rest : each_by (stepped n) k c s' t' (take size d ∷ records_of (drop size d)) ≡ each_by (stepped n) 0 0 s t (records_of b) = rw first at u.same in
     let within : c + size ≤ length b = omega (arith, left.within, length-drop c b, u.within) in
-    let held = subst (λ (r : Result). Held n r.session r.tables) (sym does.result) (held_again u.held (take size d)) in
+    let held = subst (λ (r : laid.Result). Held n r.session r.tables) (sym does.result) (held_again u.held (take size d)) in
     record {
       forward = forward;
       within = within;
@@ -189,16 +190,16 @@ turns {n} {s} {t} {b} {k} {c} {s'} {t'} {top} {x} {size} {t''} u more f e =
       held = held;
       stops =
           λ e.
-          let refusal = step_refused n s' t' (take size d) (sym (ap (λ (r : Result). r.answer) does.result) ∙ ap answer_by e) in
-          rw (ap (λ (r : Result). r.tables) (does.result ∙ refusal))
+          let refusal = step_refused n s' t' (take size d) (sym (ap (λ (r : laid.Result). r.answer) does.result) ∙ ap answer_by e) in
+          rw (ap (λ (r : laid.Result). r.tables) (does.result ∙ refusal))
           (sym (each_stops (stepped n) k c s' t' (take size d) (records_of (drop size d)) refusal) ∙ rest);
       goes =
           λ is makes.
-          let e = ap (λ (y : Change). result_by s' y t'') is ∙ makes in
+          let e = ap (λ (y : Result Change Refusal). result_by s' y t'') is ∙ makes in
           let long : length (take size d) ≡ size = length-take-le size d left.within in
           let on = rw long at (sym (each_on (stepped n) k c s' t' (take size d) (records_of (drop size d)) (sym does.result ∙ e)) ∙ rest) in
           record {
-            held = subst (λ (r : Result). Held n r.session r.tables) e held;
+            held = subst (λ (r : laid.Result). Held n r.session r.tables) e held;
             few = omega (arith, u.few, forward);
             within = within;
             same = rw (drop-drop size c b) at on;

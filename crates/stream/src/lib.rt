@@ -1,21 +1,20 @@
 // A stream of records: fed from its front until it ends or a record is refused.
 #![tactic(auto)]
 
-ghost use Rattle.std.specs.Prelude.{◌≡◌, length};
-ghost use Rattle.rows.specs.Limits.{unknowns, most_terms};
+ghost use Rattle.std.specs.Prelude.{◌≡◌};
+ghost use Rattle.rows.specs.Limits.{unknowns};
 ghost use Rattle.ledger.specs.Split.{records_of};
 ghost use Rattle.session.specs.Answers.{finding_of};
 ghost use Rattle.session.specs.Cells.{Tables, tables};
 ghost use Rattle.laid.specs.Held.{Held};
-ghost use Rattle.proposals.specs.Proposing.{Scratch};
 ghost use Rattle.settle.specs.Settling.{Seen};
 ghost use Rattle.checker.specs.Feed.{stepped};
 ghost use Rattle.stream.specs.Run.{totals, each_by, stop_number, totals_of, Runs};
 ghost use Rattle.stream.specs.Walk.{session_with, FrontStep};
 
-use checker::change;
-use records::shape::Front;
-use session::answers::Verdict;
+use checker::change::change_of;
+use proposals::Scratch;
+use session::answers::Refusal;
 use session::state::{Mark, Session};
 use settle::{Change, Top};
 
@@ -25,13 +24,13 @@ pub struct Ran {
     pub session: Session,
     pub records: usize,
     pub bytes: usize,
-    pub stop: Verdict,
+    pub stop: Result<(), Refusal>,
 }
 
-// What the front record of a stream changes, and how many bytes it has.
+// What the front record of a stream changes, or why it is refused, and how many bytes it has.
 #[derive(Clone, Copy)]
 struct Step {
-    change: Change,
+    change: Result<Change, Refusal>,
     size: usize,
 }
 
@@ -42,21 +41,20 @@ fn front_step(
     pool: &mut [u16],
     lines: &mut [u16],
     rest: &[u8],
-    cells: &mut [i32],
-    first: &mut [u16],
-    second: &mut [u16],
+    scratch: &mut Scratch,
 ) -> Step
-    requires { Seen unknowns top (tables forms.old pool.old lines.old) × (length cells.old ≡ most_terms) × Scratch first.old second.old }
+    requires { Seen unknowns top (tables forms.old pool.old lines.old) }
     ensures { FrontStep unknowns top (tables forms.old pool.old lines.old) rest.now result.change result.size (tables forms.new pool.new lines.new) }
 {
     match records::shape::read_front(rest) {
-        Front::Wrong(why) => Step {
-            change: Change::Refused(why),
+        Err(why) => Step {
+            change: Err(why),
             size: rest.len(),
         },
-        Front::Record(m, size) => {
+        Ok(front) => {
+            let size = front.size;
             let bytes = &rest[0..size];
-            let change = change::change_of(top, forms, pool, lines, bytes, m, cells, first, second);
+            let change = change_of(top, forms, pool, lines, bytes, front.mark, scratch);
             Step { change, size }
         }
     }
@@ -68,7 +66,7 @@ fn ended(
     marks: [Mark; Session::MOST_LEVELS],
     records: usize,
     bytes: usize,
-    stop: Verdict,
+    stop: Result<(), Refusal>,
 ) -> Ran
     ensures { (t : Tables) → totals_of result t ≡ totals records bytes (stop_number (finding_of stop)) (session_with counts «open» marks) t }
 {
@@ -87,59 +85,57 @@ fn ended(
     }
 }
 
-// The records of a stream on such tables; a and b are for the two lists of a line's literals. The session's parts stay in place while records
-// pass: copying it for each of them costs more than what most of them do.
+// The records of a stream on such tables. The session's parts stay in place while records pass: copying it for each of them costs more than
+// what most of them do.
 fn steps(s: Session, forms: &mut [i32], pool: &mut [u16], lines: &mut [u16], stream: &[u8]) -> Ran
     requires { Held unknowns s (tables forms.old pool.old lines.old) }
     ensures { totals_of result (tables forms.new pool.new lines.new) ≡ each_by (stepped unknowns) 0 0 s (tables forms.old pool.old lines.old) (records_of stream.now) }
 {
-    let mut cells = [0i32; Session::MOST_TERMS];
-    let mut a = [0u16; Session::LONGEST_LINE];
-    let mut b = [0u16; Session::LONGEST_LINE];
+    let mut scratch = Scratch::new();
     let mut counts = s.counts();
     let mut open = s.open;
     let mut marks = s.marks;
     let mut records: usize = 0;
     let mut bytes: usize = 0;
+    // By the bytes accepted: how far a turn goes is known only when its record is accepted, and they are one of the totals.
     while bytes < stream.len() {
         let rest = &stream[bytes..];
         let last = marks[settle::last_place(open)];
         let top = Top { counts, open, last };
-        let step = front_step(top, forms, pool, lines, rest, &mut cells, &mut a, &mut b);
+        let step = front_step(top, forms, pool, lines, rest, &mut scratch);
         let counted = records + 1;
         let end = bytes + step.size;
-        let change = step.change;
-        match change {
-            Change::Refused(why) => {
-                let stop = Verdict::Fail(why);
+        let change = match step.change {
+            Ok(change) => change,
+            Err(why) => {
+                let stop = Err(why);
                 return ended(counts, open, marks, records, bytes, stop);
             }
+        };
+        match change {
             Change::Adds(_, more) => counts = more,
             Change::Moves(to) => {
-                let place = to.at;
-                let mark = to.mark;
                 counts = to.counts;
                 open = to.open;
-                marks[place] = mark;
+                marks[to.at] = to.mark;
             }
         }
         records = counted;
         bytes = end;
     }
-    ended(counts, open, marks, records, bytes, Verdict::Pass)
+    ended(counts, open, marks, records, bytes, Ok(()))
 }
 
 // 1 and 2 are tested once, and then each record pays only for itself. Whatever session, tables and stream hold, nothing has to be tested first.
 pub fn run(s: Session, forms: &mut [i32], pool: &mut [u16], lines: &mut [u16], stream: &[u8]) -> Ran
     ensures { Runs s (tables forms.old pool.old lines.old) stream.now result (tables forms.new pool.new lines.new) }
 {
-    let verdict = order::entered(s, forms, pool, lines);
-    if let Verdict::Fail(why) = verdict {
+    if let Err(why) = order::entered(s, forms, pool, lines) {
         return Ran {
             session: s,
             records: 0,
             bytes: 0,
-            stop: Verdict::Fail(why),
+            stop: Err(why),
         };
     }
     steps(

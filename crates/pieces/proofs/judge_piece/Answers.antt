@@ -15,7 +15,6 @@ returns c =
     c.holding-end.ensures
     (rw sub-zero at ran.ensures)
     c.keep-kept.ensures
-    c.number_of-number.ensures
     c.next_by.result
     c.next_by.ensures
     a.progress.records

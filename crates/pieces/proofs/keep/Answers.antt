@@ -1,12 +1,6 @@
 -- `keep` meets its contract.
-use Rattle.pieces.proofs.Moving.{sets_out, one_more, arrives}
+use Rattle.pieces.proofs.Moving.{kept_from}
 use Rattle.pieces.proofs.keep.Goals as goal
 
-pub loop-i-init : goal.loop-i-init
-loop-i-init c = sets_out _ _ _
-
-pub loop-i-preserved : goal.loop-i-preserved
-loop-i-preserved c = one_more c.loop-i.invariant c.requires c.loop-i-test.true
-
 pub returns : goal.returns
-returns c = arrives c.loop-i.invariant c.requires c.loop-i-test.false
+returns c = rw c.copy_within.ensures.after (kept_from c.args.buffer.now c.args.to c.requires c.args.from c.min-first.result c.min-first.ensures)

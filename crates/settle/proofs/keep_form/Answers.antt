@@ -7,8 +7,5 @@ use Rattle.settle.proofs.keep_form.Goals as goal
 pub returns-then-counts-ge-MOST_FORMS : goal.returns-then-counts-ge-MOST_FORMS
 returns-then-counts-ge-MOST_FORMS c = λ ps ls s e h. record { result = form_full h _ (rw (← e) at c.if-counts-ge-MOST_FORMS.true); place = tt }
 
-pub add_form-requires : goal.add_form-requires
-add_form-requires c = record { count = omega arith; table = c.requires.0; whole = c.requires.1 }
-
 pub returns : goal.returns
 returns c = λ ps ls s e h. record { result = form_adds h c.args.top e c.args.cells.now c.requires.1 (omega arith) _ c.add_form.ensures; place = tt }

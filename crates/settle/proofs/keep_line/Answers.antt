@@ -16,8 +16,5 @@ returns-then-counts-ge-MOST_LINES c = λ fs s e h. record { result = line_full h
 pub returns-then-longer_than : goal.returns-then-longer_than
 returns-then-longer_than c = λ fs s e h. let over : most_literals - c.args.top.counts.literals < length (joined c.args.a.now c.args.b.now) = ltb-true _ _ (sym c.longer_than.ensures ∙ c.if-longer_than.true) in record { result = pool_full h _ (rw (← e) at c.if-counts-ge-MOST_LINES.false) (rw (← e) at over); place = tt }
 
-pub add_line-end-requires : goal.add_line-end-requires
-add_line-end-requires c = let low : length (joined c.args.a.now c.args.b.now) ≤ most_literals - c.args.top.counts.literals = ltb-false _ _ (sym c.longer_than.ensures ∙ c.if-longer_than.false) in record { count = omega arith; literals = omega (arith, low, c.requires.few); pool = c.requires.pool; table = c.requires.table }
-
 pub returns : goal.returns
 returns c = λ fs s e h. let xs = joined c.args.a.now c.args.b.now in let low : length xs ≤ most_literals - c.args.top.counts.literals = ltb-false _ _ (sym c.longer_than.ensures ∙ c.if-longer_than.false) in record { result = rw c.add_line-end.ensures.ends (line_adds h c.args.top e (record { origin = c.args.origin; literals = xs }) (omega arith) (omega (arith, low, c.requires.few)) _ _ c.add_line-end.ensures.pool c.add_line-end.ensures.lines); place = tt }

@@ -16,13 +16,13 @@ use Rattle.stream.proofs.run.Goals.{In_default, Start}
 abbrev cells : Start → Tables
 cells b = tables b.args.forms.now b.args.pool.now b.args.lines.now
 
-pub returns-in-Fail : goal.returns-in-Fail
-returns-in-Fail c =
-    run_refused unknowns c.args.s (cells (goal.at.returns-in-Fail c).Start) c.args.stream.now _
-    (sym c.entered-verdict.ensures ∙ ap finding_of c.in-Fail.is)
+pub returns-in-Err : goal.returns-in-Err
+returns-in-Err c =
+    run_refused unknowns c.args.s (cells (goal.at.returns-in-Err c).Start) c.args.stream.now _
+    (sym c.entered.ensures ∙ ap finding_of c.in-Err.is)
 
 passes : (c : In_default) → entry unknowns c.args.s (cells (goal.at.In_default c).Start) ≡ pass
-passes c = sym c.entered-verdict.ensures ∙ ap finding_of c.in_default.is
+passes c = sym c.entered.ensures ∙ ap finding_of c.in_default.is
 
 pub slice_bounds-steps-end : goal.slice_bounds-steps-end
 slice_bounds-steps-end c = (entry_long unknowns c.args.s (cells (goal.at.slice_bounds-steps-end c).Start) (passes (c))).form_room

@@ -1,5 +1,7 @@
 -- `stream::steps` meets its contract.
-use mathlib.Core.Path.{◌≡◌, refl, sym, ◌∙◌}
+use mathlib.Core.Path.{◌≡◌, refl, ap, ◌∙◌}
+use Rattle.std.specs.Prelude.{Ok}
+use Rattle.settle.specs.declared.Change.{Change}
 use native.Mathlib.Omega.{arith}
 use Rattle.rows.specs.Limits.{unknowns}
 use Rattle.session.specs.declared.state.Session.{Session}
@@ -8,7 +10,7 @@ use Rattle.laid.proofs.HeldLaws.{held_clauses}
 use Rattle.settle.specs.Settling.{top_of}
 use Rattle.settle.proofs.Tops.{top_is}
 use Rattle.stream.specs.Walk.{session_with}
-use Rattle.stream.proofs.Running.{sets_out, set_out, arrives, Turn, turns}
+use Rattle.stream.proofs.Running.{set_out, arrives, Turn, turns}
 use Rattle.stream.proofs.steps.Goals as goal
 use Rattle.stream.proofs.steps.Goals.{After-front_step-step, After-last_place, At-loop-bytes}
 
@@ -28,69 +30,28 @@ turned : (c : After-front_step-step) →
     (tables c.args.forms.now c.args.pool.now c.args.lines.now)
     c.args.stream.now c.loop-bytes.records c.loop-bytes.bytes (present (goal.at.After-front_step-step c).At-loop-bytes)
     c.front_step-step.result.change c.front_step-step.result.size (left c)
-turned c = turns c.loop-bytes.invariant.0 c.loop-bytes-test.true c.front_step-step.ensures (seen (goal.at.After-front_step-step c).After-last_place)
-
-pub loop-bytes-init : goal.loop-bytes-init
-loop-bytes-init c = (sets_out unknowns c.args.s _ c.counts-counts.ensures _ c.requires, refl, refl, refl)
+turned c = turns c.loop-bytes.invariant c.loop-bytes-test.true c.front_step-step.ensures (seen (goal.at.After-front_step-step c).After-last_place)
 
 pub offset_bounds-marks-last_place : goal.offset_bounds-marks-last_place
-offset_bounds-marks-last_place c = omega (arith, c.last_place.ensures, (held_clauses c.loop-bytes.invariant.0.held).few_levels)
+offset_bounds-marks-last_place c = omega (arith, c.last_place.ensures, (held_clauses c.loop-bytes.invariant.held).few_levels)
 
 pub bounds-marks-last_place : goal.bounds-marks-last_place
-bounds-marks-last_place c = omega (arith, c.last_place.ensures, (held_clauses c.loop-bytes.invariant.0.held).few_levels)
+bounds-marks-last_place c = omega (arith, c.last_place.ensures, (held_clauses c.loop-bytes.invariant.held).few_levels)
 
-pub front_step-step-requires : goal.front_step-step-requires
-front_step-step-requires c = (
-  record { session = present (goal.at.front_step-step-requires c).At-loop-bytes; seen = seen (goal.at.front_step-step-requires c).After-last_place; held = c.loop-bytes.invariant.0.held },
-  c.loop-bytes.invariant.1,
-  record { first = c.loop-bytes.invariant.2; second = c.loop-bytes.invariant.3 },
-)
-
-pub overflow_add-counted : goal.overflow_add-counted
-overflow_add-counted c = omega (arith, c.loop-bytes.invariant.0.few, c.loop-bytes.invariant.0.within, c.loop-bytes-test.true)
-
-pub overflow_add-end : goal.overflow_add-end
-overflow_add-end c = omega (arith, (turned (goal.at.overflow_add-end c).After-front_step-step).within)
-
-pub shape_of-forms-in-Refused : goal.shape_of-forms-in-Refused
-shape_of-forms-in-Refused c = (turned (goal.at.shape_of-forms-in-Refused c).After-front_step-step).held.exact.sized.form_size ∙ sym c.requires.exact.sized.form_size
-
-pub shape_of-pool-in-Refused : goal.shape_of-pool-in-Refused
-shape_of-pool-in-Refused c = (turned (goal.at.shape_of-pool-in-Refused c).After-front_step-step).held.exact.sized.pool_size ∙ sym c.requires.exact.sized.pool_size
-
-pub shape_of-lines-in-Refused : goal.shape_of-lines-in-Refused
-shape_of-lines-in-Refused c = (turned (goal.at.shape_of-lines-in-Refused c).After-front_step-step).held.exact.sized.line_size ∙ sym c.requires.exact.sized.line_size
-
-pub returns-in-Refused : goal.returns-in-Refused
-returns-in-Refused c = c.ended.ensures _ ∙ set_out unknowns c.args.s _ c.counts-counts.ensures _ ((turned (goal.at.returns-in-Refused c).After-front_step-step).stops c.in-Refused.is)
-
-pub offset_bounds-marks-place : goal.offset_bounds-marks-place
-offset_bounds-marks-place c = omega (arith, rw c.in-Moves.is at (turned (goal.at.offset_bounds-marks-place c).After-front_step-step).place)
-
-pub bounds-marks-place : goal.bounds-marks-place
-bounds-marks-place c = omega (arith, rw c.in-Moves.is at (turned (goal.at.bounds-marks-place c).After-front_step-step).place)
+pub returns-in-Err : goal.returns-in-Err
+returns-in-Err c = c.ended.ensures _ ∙ set_out unknowns c.args.s _ c.counts-counts.ensures _ ((turned (goal.at.returns-in-Err c).After-front_step-step).stops c.in-Err.is)
 
 pub loop-bytes-smaller-in-Adds : goal.loop-bytes-smaller-in-Adds
 loop-bytes-smaller-in-Adds c = omega (arith, (turned (goal.at.loop-bytes-smaller-in-Adds c).After-front_step-step).forward, c.loop-bytes-test.true)
 
 pub loop-bytes-preserved-in-Adds : goal.loop-bytes-preserved-in-Adds
-loop-bytes-preserved-in-Adds c = (
-  (turned (goal.at.loop-bytes-preserved-in-Adds c).After-front_step-step).goes c.in-Adds.is refl,
-  omega (arith, c.cells-in-loop-bytes-1.given, c.loop-bytes.invariant.1),
-  omega (arith, c.a-in-loop-bytes-1.given, c.loop-bytes.invariant.2),
-  omega (arith, c.b-in-loop-bytes-1.given, c.loop-bytes.invariant.3),
-)
+loop-bytes-preserved-in-Adds c = (turned (goal.at.loop-bytes-preserved-in-Adds c).After-front_step-step).goes (c.in-Ok.is ∙ ap (λ (x : Change). Ok x) c.in-Adds.is) refl
 
 pub loop-bytes-smaller : goal.loop-bytes-smaller
 loop-bytes-smaller c = omega (arith, (turned (goal.at.loop-bytes-smaller c).After-front_step-step).forward, c.loop-bytes-test.true)
 
 pub loop-bytes-preserved : goal.loop-bytes-preserved
-loop-bytes-preserved c = (
-  (turned (goal.at.loop-bytes-preserved c).After-front_step-step).goes c.in-Moves.is refl,
-  omega (arith, c.cells-in-loop-bytes-1.given, c.loop-bytes.invariant.1),
-  omega (arith, c.a-in-loop-bytes-1.given, c.loop-bytes.invariant.2),
-  omega (arith, c.b-in-loop-bytes-1.given, c.loop-bytes.invariant.3),
-)
+loop-bytes-preserved c = (turned (goal.at.loop-bytes-preserved c).After-front_step-step).goes (c.in-Ok.is ∙ ap (λ (x : Change). Ok x) c.in-Moves.is) refl
 
 pub returns : goal.returns
-returns c = c.ended-2.ensures _ ∙ set_out unknowns c.args.s _ c.counts-counts.ensures _ (arrives c.loop-bytes.invariant.0 c.loop-bytes-test.false)
+returns c = c.ended-2.ensures _ ∙ set_out unknowns c.args.s _ c.counts-counts.ensures _ (arrives c.loop-bytes.invariant c.loop-bytes-test.false)

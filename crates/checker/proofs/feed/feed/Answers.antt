@@ -15,14 +15,14 @@ use Rattle.checker.proofs.feed.feed.Goals.{In_default, Start}
 abbrev cells : Start → Tables
 cells b = tables b.args.forms.now b.args.pool.now b.args.lines.now
 
-pub returns-in-Fail : goal.returns-in-Fail
-returns-in-Fail c =
-    c.refuse.ensures (cells (goal.at.returns-in-Fail c).Start)
-    ∙ feed_refused unknowns c.args.s (cells (goal.at.returns-in-Fail c).Start) c.args.bytes.now _
-    (sym c.entered-verdict.ensures ∙ ap finding_of c.in-Fail.is)
+pub returns-in-Err : goal.returns-in-Err
+returns-in-Err c =
+    c.refuse.ensures (cells (goal.at.returns-in-Err c).Start)
+    ∙ feed_refused unknowns c.args.s (cells (goal.at.returns-in-Err c).Start) c.args.bytes.now _
+    (sym c.entered.ensures ∙ ap finding_of c.in-Err.is)
 
 passes : (c : In_default) → entry unknowns c.args.s (cells (goal.at.In_default c).Start) ≡ pass
-passes c = sym c.entered-verdict.ensures ∙ ap finding_of c.in_default.is
+passes c = sym c.entered.ensures ∙ ap finding_of c.in_default.is
 
 pub slice_bounds-step-end : goal.slice_bounds-step-end
 slice_bounds-step-end c = (entry_long unknowns c.args.s (cells (goal.at.slice_bounds-step-end c).Start) (passes (c))).form_room

@@ -1,3 +1,1 @@
-mod MarksCross
-mod CallsCross
 pub mod RoundTrip

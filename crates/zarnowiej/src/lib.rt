@@ -9,15 +9,14 @@ ghost use Rattle.session.specs.Cells.{tables};
 ghost use Rattle.zarnowiej.specs.Crossing.{StartCrosses, FeedCrosses, RunCrosses, StandingCrosses};
 
 pub use plain::{Begun, Fed, Mark, Ran, Session, Stands};
+use session::state;
 
 // The start: a fresh session, and every named cell becomes 0. Refused with 1 where a table is too short.
 pub fn zarnowiej_start(forms: &mut [i32], pool: &mut [u16], lines: &mut [u16]) -> Begun
     ensures { StartCrosses (tables forms.old pool.old lines.old) result (tables forms.new pool.new lines.new) }
 {
     let begun = session::start::start(forms, pool, lines);
-    let answer = begun.start;
-    let fresh = crate::plain::session_out(begun.session);
-    crate::plain::begun_out(fresh, answer)
+    Begun::from(begun)
 }
 
 // One record: refused, or what it made and the session afterwards.
@@ -30,11 +29,9 @@ pub fn zarnowiej_feed(
 ) -> Fed
     ensures { FeedCrosses s (tables forms.old pool.old lines.old) bytes.now result (tables forms.new pool.new lines.new) }
 {
-    let inner = crate::plain::session_in(s);
+    let inner = state::Session::from(s);
     let fed = checker::feed::feed(inner, forms, pool, lines, bytes);
-    let answer = fed.answer;
-    let after = crate::plain::session_out(fed.session);
-    crate::plain::fed_out(after, answer)
+    Fed::from(fed)
 }
 
 // A stream of records, up to its end or to the first that is refused: the accepted totals, what stopped it and the session afterwards.
@@ -47,18 +44,16 @@ pub fn zarnowiej_run(
 ) -> Ran
     ensures { RunCrosses s (tables forms.old pool.old lines.old) stream.now result (tables forms.new pool.new lines.new) }
 {
-    let inner = crate::plain::session_in(s);
+    let inner = state::Session::from(s);
     let ran = stream::run(inner, forms, pool, lines, stream);
-    let stop = ran.stop;
-    let after = crate::plain::session_out(ran.session);
-    crate::plain::ran_out(after, ran.records, ran.bytes, stop)
+    Ran::from(ran)
 }
 
 // The standing: refuted by the lowest empty line, not refuted, or refused with 1 or 2. It writes nothing.
 pub fn zarnowiej_standing(s: Session, forms: &[i32], pool: &[u16], lines: &[u16]) -> Stands
     ensures { StandingCrosses s (tables forms.now pool.now lines.now) result }
 {
-    let inner = crate::plain::session_in(s);
+    let inner = state::Session::from(s);
     let standing = order::standing::standing(inner, forms, pool, lines);
-    crate::plain::stands_out(standing)
+    Stands::from(standing)
 }

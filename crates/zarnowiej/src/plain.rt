@@ -1,11 +1,13 @@
-// The structs that cross to C and Rust, and the functions between them and what the calls take and give.
+// The structs that cross to C and Rust, and what they are of what the calls take and give.
 ghost use Rattle.std.specs.Prelude.{◌≡◌};
 ghost use Rattle.session.specs.Answers.{answer_of, finding_of};
 ghost use Rattle.session.specs.Calls.{start_of, stands_of};
 ghost use Rattle.stream.specs.Run.{stop_number};
-ghost use Rattle.zarnowiej.specs.Crossing.{session_in, session_out, begun_by, fed_by, ran, standing_out};
+ghost use Rattle.zarnowiej.specs.Crossing.{mark_in, mark_out, session_in, session_out, begun_by, fed_by, ran, standing_out};
 
-use session::answers::{Answer, Made, Standing, Start, Verdict};
+use checker::keep;
+use session::answers::{Made, Refusal};
+use session::{start, state};
 
 // The counts as a level opened.
 #[repr(C)]
@@ -24,7 +26,7 @@ pub struct Session {
     pub lines: u16,
     pub literals: u16,
     pub open: u16,
-    pub marks: [Mark; session::state::Session::MOST_LEVELS],
+    pub marks: [Mark; state::Session::MOST_LEVELS],
 }
 
 // What a start gives: the fresh session, and 0 or the number of the refusal.
@@ -34,6 +36,8 @@ pub struct Begun {
     pub session: Session,
     pub refusal: u16,
 }
+
+// Numbers in place of `Result`, `Option` and `Made`, and structs of their own for the session and its marks, are what C can read.
 
 // What a record gives: the session afterwards, and the answer. `what` is 0 for a refusal, with the refusal's number; 1 for a form and 2 for
 // a line, with its number; 3 for a level, with the count of open levels.
@@ -66,143 +70,133 @@ pub struct Stands {
     pub line: u16,
 }
 
-// The session as the calls take it.
-pub fn session_in(s: Session) -> session::state::Session
-    ensures { result ≡ session_in s }
-{
-    let mut marks = [session::state::Mark {
-        forms: 0,
-        lines: 0,
-        literals: 0,
-    }; session::state::Session::MOST_LEVELS];
-    let mut i: usize = 0;
-    while i < session::state::Session::MOST_LEVELS {
-        let m = s.marks[i];
-        marks[i] = session::state::Mark {
+impl From<Mark> for state::Mark {
+    ghost from_gives = { λ m r. r ≡ mark_in m };
+
+    fn from(m: Mark) -> state::Mark {
+        state::Mark {
             forms: m.forms,
             lines: m.lines,
             literals: m.literals,
-        };
-        i += 1;
+        }
     }
-    session::state::Session {
-        forms: s.forms,
-        lines: s.lines,
-        literals: s.literals,
-        open: s.open,
-        marks,
+}
+
+impl From<state::Mark> for Mark {
+    ghost from_gives = { λ m r. r ≡ mark_out m };
+
+    fn from(m: state::Mark) -> Mark {
+        Mark {
+            forms: m.forms,
+            lines: m.lines,
+            literals: m.literals,
+        }
+    }
+}
+
+// The session as the calls take it.
+impl From<Session> for state::Session {
+    ghost from_gives = { λ s r. r ≡ session_in s };
+
+    fn from(s: Session) -> state::Session {
+        state::Session {
+            forms: s.forms,
+            lines: s.lines,
+            literals: s.literals,
+            open: s.open,
+            marks: s.marks.map(state::Mark::from),
+        }
     }
 }
 
 // The session as it crosses.
-pub fn session_out(s: session::state::Session) -> Session
-    ensures { result ≡ session_out s }
+impl From<state::Session> for Session {
+    ghost from_gives = { λ s r. r ≡ session_out s };
+
+    fn from(s: state::Session) -> Session {
+        Session {
+            forms: s.forms,
+            lines: s.lines,
+            literals: s.literals,
+            open: s.open,
+            marks: s.marks.map(Mark::from),
+        }
+    }
+}
+
+// The number of the refusal, or 0 where there is none.
+fn refusal_number(found: Result<(), Refusal>) -> u16
+    ensures { result ≡ stop_number (finding_of found) }
 {
-    let mut marks = [Mark {
-        forms: 0,
-        lines: 0,
-        literals: 0,
-    }; session::state::Session::MOST_LEVELS];
-    let mut i: usize = 0;
-    while i < session::state::Session::MOST_LEVELS {
-        let m = s.marks[i];
-        marks[i] = Mark {
-            forms: m.forms,
-            lines: m.lines,
-            literals: m.literals,
+    match found {
+        Ok(()) => 0,
+        Err(why) => u16::from(why),
+    }
+}
+
+impl From<start::Begun> for Begun {
+    ghost from_gives = { λ b r. r ≡ begun_by (start_of b.start) (session_out b.session) };
+
+    fn from(begun: start::Begun) -> Begun {
+        Begun {
+            session: Session::from(begun.session),
+            refusal: refusal_number(begun.start),
+        }
+    }
+}
+
+impl From<keep::Fed> for Fed {
+    ghost from_gives = { λ f r. r ≡ fed_by (answer_of f.answer) (session_out f.session) };
+
+    fn from(fed: keep::Fed) -> Fed {
+        let session = Session::from(fed.session);
+        let (what, number) = match fed.answer {
+            Ok(Made::Form(number)) => (1, number),
+            Ok(Made::Line(number)) => (2, number),
+            Ok(Made::Level(number)) => (3, number),
+            Err(why) => (0, u16::from(why)),
         };
-        i += 1;
-    }
-    Session {
-        forms: s.forms,
-        lines: s.lines,
-        literals: s.literals,
-        open: s.open,
-        marks,
+        Fed {
+            session,
+            what,
+            number,
+        }
     }
 }
 
-pub fn begun_out(session: Session, start: Start) -> Begun
-    ensures { result ≡ begun_by (start_of start) session }
-{
-    match start {
-        Start::Started => Begun {
-            session,
-            refusal: 0,
-        },
-        Start::Refused(why) => Begun {
-            session,
-            refusal: session::answers::number(why),
-        },
+impl From<stream::Ran> for Ran {
+    ghost from_gives = { λ x r. r ≡ ran (session_out x.session) x.records x.bytes (stop_number (finding_of x.stop)) };
+
+    fn from(ran: stream::Ran) -> Ran {
+        Ran {
+            session: Session::from(ran.session),
+            stop: refusal_number(ran.stop),
+            records: ran.records,
+            bytes: ran.bytes,
+        }
     }
 }
 
-pub fn fed_out(session: Session, answer: Answer) -> Fed
-    ensures { result ≡ fed_by (answer_of answer) session }
-{
-    match answer {
-        Answer::Accepted(made) => match made {
-            Made::Form(number) => Fed {
-                session,
-                what: 1,
-                number,
+impl From<Result<Option<u16>, Refusal>> for Stands {
+    ghost from_gives = { λ x r. r ≡ standing_out (stands_of x) };
+
+    fn from(standing: Result<Option<u16>, Refusal>) -> Stands {
+        match standing {
+            Ok(Some(line)) => Stands {
+                refusal: 0,
+                refuted: 1,
+                line,
             },
-            Made::Line(number) => Fed {
-                session,
-                what: 2,
-                number,
+            Ok(None) => Stands {
+                refusal: 0,
+                refuted: 0,
+                line: 0,
             },
-            Made::Level(number) => Fed {
-                session,
-                what: 3,
-                number,
+            Err(why) => Stands {
+                refusal: u16::from(why),
+                refuted: 0,
+                line: 0,
             },
-        },
-        Answer::Refused(why) => Fed {
-            session,
-            what: 0,
-            number: session::answers::number(why),
-        },
-    }
-}
-
-pub fn ran_out(session: Session, records: usize, bytes: usize, stop: Verdict) -> Ran
-    ensures { result ≡ ran session records bytes (stop_number (finding_of stop)) }
-{
-    match stop {
-        Verdict::Pass => Ran {
-            session,
-            stop: 0,
-            records,
-            bytes,
-        },
-        Verdict::Fail(why) => Ran {
-            session,
-            stop: session::answers::number(why),
-            records,
-            bytes,
-        },
-    }
-}
-
-pub fn stands_out(standing: Standing) -> Stands
-    ensures { result ≡ standing_out (stands_of standing) }
-{
-    match standing {
-        Standing::Refuted(line) => Stands {
-            refusal: 0,
-            refuted: 1,
-            line,
-        },
-        Standing::NotRefuted => Stands {
-            refusal: 0,
-            refuted: 0,
-            line: 0,
-        },
-        Standing::Refused(why) => Stands {
-            refusal: session::answers::number(why),
-            refuted: 0,
-            line: 0,
-        },
+        }
     }
 }

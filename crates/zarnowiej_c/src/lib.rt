@@ -1,5 +1,5 @@
 // The static library for programs in C and Rust: the four calls of the crate zarnowiej under their exported names, each with the contract of the
-// call that it passes on to. A slice crosses as an address and a count of cells.
+// call that it passes on to. They stand twice because a crate is a library or a static library. A slice crosses as an address and a count of cells.
 #![tactic(auto)]
 
 ghost use Rattle.session.specs.Cells.{tables};

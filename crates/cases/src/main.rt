@@ -3,7 +3,6 @@
 #![tactic(auto)]
 
 mod change;
-mod differ;
 mod reading;
 mod run;
 

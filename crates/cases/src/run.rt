@@ -3,91 +3,84 @@
 // nothing is printed. tables, change and print: see `change.rt`.
 //
 // Before the first case there is a fresh session, and the tables hold only sevens.
-use crate::change::{change, print_named, with_lengths};
-use crate::differ::trials_differ;
-use crate::reading::{Step, begun, in_step, read};
-use fields::numbers::byte_at;
-use printing::print;
+use crate::change::{change, lend, print_named};
+use crate::reading::{Place, Step};
+use printing::{print_answer, print_standing};
+use session::answers::{Made, Refusal};
 use session::state::Session;
 use std::io;
 use std::io::Write;
-use trial::calls::called;
-use trial::{Trial, bad, filled, least};
+use trial::{BadCommand, Trial};
 
-// One record by value and, on a copy, with the session lent. Says so where the two differ in anything.
-fn feed<W: Write>(out: &mut W, letter: u8, trial: Trial, record: &[u8]) -> io::Result<Trial> {
-    let fed = called(out, letter, trial, record)?;
-    let lent = called(out, b'l', trial, record)?;
-    if trials_differ(fed, lent) {
-        print(out, b"differs when lent\n")?;
-    }
-    Ok(fed)
+// What one record comes to by value, and whether it does the same, on a copy, with the session lent.
+fn feed(trial: &mut Trial, record: &[u8]) -> (Result<Made, Refusal>, bool) {
+    let mut copy = *trial;
+    let answer = trial.feed(record);
+    let agrees = copy.feed_lent(record) == answer && copy == *trial;
+    (answer, agrees)
 }
 
-// One step; none, if no word was read.
-fn act<W: Write>(out: &mut W, trial: Trial, letter: u8, record: &[u8]) -> io::Result<Trial> {
+fn print_agrees<W: Write>(out: &mut W, agrees: bool) -> io::Result<()> {
+    if agrees {
+        return Ok(());
+    }
+    writeln!(out, "differs when lent")
+}
+
+// One step, by the letter that the text names it with, which stands nowhere else; none, if no word was read.
+fn act<W: Write>(out: &mut W, trial: &mut Trial, letter: u8, record: &[u8]) -> io::Result<()> {
     match letter {
-        0 => Ok(trial),
-        b's' | b'o' | b'r' => called(out, letter, trial, record),
-        b'f' | b'a' => feed(out, letter, trial, record),
-        b't' => Ok(with_lengths(trial, record)),
-        b'c' => change(out, trial, record),
-        b'p' => {
-            print_named(out, trial, record)?;
-            Ok(trial)
+        0 => Ok(()),
+        b's' => print_answer(out, trial.start().map(|()| "started")),
+        b'o' => print_answer(out, trial.entered().map(|()| "in order")),
+        b'r' => print_standing(out, trial.standing()),
+        b'f' => {
+            let (answer, agrees) = feed(trial, record);
+            print_answer(out, answer)?;
+            print_agrees(out, agrees)
         }
-        _ => bad(out, trial),
+        b'a' => {
+            let (_, agrees) = feed(trial, record);
+            print_agrees(out, agrees)
+        }
+        b't' => {
+            lend(trial, record);
+            Ok(())
+        }
+        b'c' => match change(trial, record) {
+            Ok(()) => Ok(()),
+            Err(bad) => writeln!(out, "{bad}"),
+        },
+        b'p' => print_named(out, trial, record),
+        _ => writeln!(out, "{BadCommand}"),
     }
 }
 
-// In these bytes a step's word stands at the front, and its record between the two places.
-fn repeat<W: Write>(
-    out: &mut W,
-    trial: Trial,
-    bytes: &[u8],
-    from: usize,
-    to: usize,
-    times: u32,
-) -> io::Result<Trial> {
-    let end = least(to, bytes.len());
-    let start = least(from, end);
-    let mut present = trial;
-    let mut i: u32 = 0;
-    while i < times {
-        let next = act(out, present, byte_at(bytes, 0), &bytes[start..end])?;
-        present = next;
-        i += 1;
+fn run_step<W: Write>(out: &mut W, trial: &mut Trial, step: &Step) -> io::Result<()> {
+    let mut whole = *step;
+    whole.take(b' ');
+    for _ in 0..whole.times {
+        act(out, trial, whole.letter(), whole.record())?;
     }
-    Ok(present)
-}
-
-fn run_step<W: Write>(out: &mut W, trial: Trial, step: Step) -> io::Result<Trial> {
-    let whole = in_step(step, b' ');
-    let bytes = whole.bytes;
-    repeat(out, trial, &bytes, whole.from, whole.count, whole.times)
+    Ok(())
 }
 
 // Holds what the steps of a case work on, and what the next case begins with.
 pub fn run<W: Write>(out: &mut W, text: &[u8]) -> io::Result<()> {
-    let mut present = filled(7, Session::FORM_TABLE, Session::POOL, Session::LINE_TABLE);
+    let mut present = Trial::filled(7, Session::FORM_TABLE, Session::POOL, Session::LINE_TABLE);
     let mut kept = present;
-    let mut step = begun(b' ');
-    let mut i: usize = 0;
-    while i < text.len() {
-        let byte = text[i];
+    let mut step = Step::begun(Place::Label);
+    for &byte in text {
         if byte == b';' || byte == b'\n' {
-            let after = run_step(out, present, step)?;
-            present = after;
+            run_step(out, &mut present, &step)?;
         }
         if byte == b'\n' {
-            if step.place == b'>' {
+            if step.place == Place::Kept {
                 kept = present;
             }
             present = kept;
         }
-        let longer = read(out, step, byte)?;
-        step = longer;
-        i += 1;
+        step.read(out, byte)?;
     }
     Ok(())
 }

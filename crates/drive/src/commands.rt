@@ -1,106 +1,123 @@
-// How long a command is, and those that call nothing: each sets a part of the state.
-ghost use Rattle.std.specs.Prelude.{◌<◌, ◌≤◌};
+// The commands, and how they are read. Each begins with a letter, and its numbers are little endian.
+ghost use Rattle.std.specs.Prelude.{◌<◌, ◌≤◌, length, IfSome};
 
-use fields::numbers::{byte_at, i32_at};
 use session::state::{Mark, Session};
-use std::io;
-use std::io::Write;
-use trial::{
-    FORM_ROOM, LINE_ROOM, POOL_ROOM, Trial, bad, filled, with_form_cell, with_line_cell,
-    with_pool_cell,
-};
+use trial::BadCommand;
 
-// The number of two bytes at this place; a byte that is not there counts as 0.
-fn number(text: &[u8], at: usize) -> u16 {
-    let high = byte_at(text, std::num::wrapping_add_usize(at, 1)) as u16;
-    byte_at(text, at) as u16 + 256 * high
+// A call of the library. The bytes of a record or stream come after their length.
+#[derive(Clone, Copy)]
+pub enum Call<'a> {
+    Start,
+    Standing,
+    Feed(&'a [u8]),
+    Run(&'a [u8]),
 }
 
-// How many bytes a command takes.
-pub fn size(text: &[u8]) -> usize
-    ensures { 1 ≤ result }
-{
-    match byte_at(text, 0) {
-        b'T' => 13,
-        b'S' => 57,
-        b'F' => 7,
-        b'P' | b'L' => 5,
-        b'B' | b'N' => 3 + number(text, 1) as usize,
-        _ => 1,
+#[derive(Clone, Copy)]
+pub enum Command<'a> {
+    // Other lengths of the forms, the pool and the lines, over tables that are 0 throughout, and the fresh session.
+    Lend(u32, u32, u32),
+    // Another session.
+    Resume(Session),
+    // Another cell, at a place of its table.
+    Form(u16, i32),
+    Literal(u16, u16),
+    Line(u16, u16),
+    Call(Call<'a>),
+}
+
+// A text that is read from its front. Where it does not hold what is read whole, that is None.
+#[derive(Clone, Copy)]
+pub struct Reader<'a> {
+    pub rest: &'a [u8],
+}
+
+impl<'a> Reader<'a> {
+    fn byte(&mut self) -> Option<u8>
+        ensures { IfSome result (λ _. length self.new.rest.now < length self.old.rest.now) }
+    {
+        let (&byte, rest) = self.rest.split_first()?;
+        self.rest = rest;
+        Some(byte)
     }
-}
 
-fn length_of(text: &[u8], table: usize) -> usize
-    requires { table < 3 }
-{
-    let low = number(text, 4 * table + 1) as usize;
-    let high = number(text, 4 * table + 3) as usize;
-    low + 65_536 * high
-}
-
-// T: other lengths, over tables that are 0 throughout, and the fresh session.
-pub fn lend<W: Write>(out: &mut W, s: Trial, text: &[u8]) -> io::Result<Trial> {
-    let f = length_of(text, 0);
-    let p = length_of(text, 1);
-    let l = length_of(text, 2);
-    if FORM_ROOM < f || POOL_ROOM < p || LINE_ROOM < l {
-        return bad(out, s);
+    fn array<const N: usize>(&mut self) -> Option<[u8; N]>
+        ensures { length self.new.rest.now ≤ length self.old.rest.now }
+    {
+        let (bytes, rest) = self.rest.split_first_chunk()?;
+        self.rest = rest;
+        Some(*bytes)
     }
-    Ok(filled(0, f, p, l))
-}
 
-fn mark_of(text: &[u8], level: usize) -> Mark
-    requires { level < 8 }
-{
-    let at = 6 * level + 9;
-    Mark {
-        forms: number(text, at),
-        lines: number(text, at + 2),
-        literals: number(text, at + 4),
+    fn u16(&mut self) -> Option<u16>
+        ensures { length self.new.rest.now ≤ length self.old.rest.now }
+    {
+        self.array().map(u16::from_le_bytes)
     }
-}
 
-fn marks_of(text: &[u8]) -> [Mark; Session::MOST_LEVELS] {
-    let mut marks = [Mark {
-        forms: 0,
-        lines: 0,
-        literals: 0,
-    }; Session::MOST_LEVELS];
-    let mut i: usize = 0;
-    while i < Session::MOST_LEVELS {
-        marks[i] = mark_of(text, i);
-        i += 1;
+    fn u32(&mut self) -> Option<u32>
+        ensures { length self.new.rest.now ≤ length self.old.rest.now }
+    {
+        self.array().map(u32::from_le_bytes)
     }
-    marks
-}
 
-// S: another session.
-pub fn set_session(mut s: Trial, text: &[u8]) -> Trial {
-    let next = Session {
-        forms: number(text, 1),
-        lines: number(text, 3),
-        literals: number(text, 5),
-        open: number(text, 7),
-        marks: marks_of(text),
-    };
-    s.session = next;
-    s
-}
-
-// F: another cell of the forms, which has four bytes.
-pub fn set_form<W: Write>(out: &mut W, s: Trial, text: &[u8]) -> io::Result<Trial> {
-    if text.len() < 7 {
-        return bad(out, s);
+    fn i32(&mut self) -> Option<i32>
+        ensures { length self.new.rest.now ≤ length self.old.rest.now }
+    {
+        self.array().map(i32::from_le_bytes)
     }
-    with_form_cell(out, s, number(text, 1) as usize, i32_at(text, 3))
-}
 
-// P: another cell of the pool.
-pub fn set_literal<W: Write>(out: &mut W, s: Trial, text: &[u8]) -> io::Result<Trial> {
-    with_pool_cell(out, s, number(text, 1) as usize, number(text, 3))
-}
+    // Bytes after their length.
+    fn bytes(&mut self) -> Option<&'a [u8]>
+        ensures { length self.new.rest.now ≤ length self.old.rest.now }
+    {
+        let size = self.u16()?;
+        let (bytes, rest) = self.rest.split_at_checked(size as usize)?;
+        self.rest = rest;
+        Some(bytes)
+    }
 
-// L: another cell of the lines.
-pub fn set_line<W: Write>(out: &mut W, s: Trial, text: &[u8]) -> io::Result<Trial> {
-    with_line_cell(out, s, number(text, 1) as usize, number(text, 3))
+    fn mark(&mut self) -> Option<Mark>
+        ensures { length self.new.rest.now ≤ length self.old.rest.now }
+    {
+        Some(Mark {
+            forms: self.u16()?,
+            lines: self.u16()?,
+            literals: self.u16()?,
+        })
+    }
+
+    // The counts, the open levels, and then every mark.
+    fn session(&mut self) -> Option<Session>
+        ensures { length self.new.rest.now ≤ length self.old.rest.now }
+    {
+        let mut session = Session::fresh();
+        session.forms = self.u16()?;
+        session.lines = self.u16()?;
+        session.literals = self.u16()?;
+        session.open = self.u16()?;
+        for mark in &mut session.marks {
+            *mark = self.mark()?;
+        }
+        Some(session)
+    }
+
+    // The command at the front: a bad one, if its letter is none of these.
+    pub fn command(&mut self) -> Option<Result<Command<'a>, BadCommand>>
+        ensures { IfSome result (λ _. length self.new.rest.now < length self.old.rest.now) }
+    {
+        let command = match self.byte()? {
+            b'T' => Command::Lend(self.u32()?, self.u32()?, self.u32()?),
+            b'S' => Command::Resume(self.session()?),
+            b'F' => Command::Form(self.u16()?, self.i32()?),
+            b'P' => Command::Literal(self.u16()?, self.u16()?),
+            b'L' => Command::Line(self.u16()?, self.u16()?),
+            b'I' => Command::Call(Call::Start),
+            b'Q' => Command::Call(Call::Standing),
+            b'B' => Command::Call(Call::Feed(self.bytes()?)),
+            b'N' => Command::Call(Call::Run(self.bytes()?)),
+            _ => return Some(Err(BadCommand)),
+        };
+        Some(Ok(command))
+    }
 }

@@ -1,71 +1,57 @@
 // Obeys the commands of a text one after the other.
 ghost use Rattle.std.specs.Prelude.{◌≤◌, length, IfOk};
 
-use crate::commands::{lend, set_form, set_line, set_literal, set_session, size};
-use crate::say::print_trial;
-use fields::numbers::byte_at;
+use crate::commands::{Call, Command, Reader};
+use crate::failure::Failure;
+use crate::say::{print_run, print_trial};
+use printing::{print_answer, print_standing};
 use std::io;
 use std::io::Write;
-use trial::calls::called;
-use trial::{Trial, bad, least};
+use trial::{BadCommand, FORM_ROOM, LINE_ROOM, POOL_ROOM, Trial};
 
-// The letter of a call for that of its command.
-fn letter_of(command: u8) -> u8 {
+fn lent(forms: usize, pool: usize, lines: usize) -> Result<Trial, BadCommand> {
+    if FORM_ROOM < forms || POOL_ROOM < pool || LINE_ROOM < lines {
+        return Err(BadCommand);
+    }
+    Ok(Trial::filled(0, forms, pool, lines))
+}
+
+// A call, and its answer.
+fn call<W: Write>(out: &mut W, trial: &mut Trial, call: Call) -> io::Result<()> {
+    match call {
+        Call::Start => print_answer(out, trial.start().map(|()| "started")),
+        Call::Standing => print_standing(out, trial.standing()),
+        Call::Feed(record) => print_answer(out, trial.feed(record)),
+        Call::Run(bytes) => print_run(out, trial.run(bytes)),
+    }
+}
+
+fn obey<W: Write>(out: &mut W, trial: &mut Trial, command: Command) -> Result<(), Failure> {
     match command {
-        b'I' => b's',
-        b'Q' => b'r',
-        b'B' => b'f',
-        _ => b'n',
-    }
-}
-
-// A call, and after its answer the session and the cells.
-fn call<W: Write>(out: &mut W, letter: u8, s: Trial, bytes: &[u8]) -> io::Result<Trial> {
-    let after = called(out, letter_of(letter), s, bytes)?;
-    print_trial(out, after)?;
-    Ok(after)
-}
-
-// One command. The bytes of a record or stream come after their length.
-fn step<W: Write>(out: &mut W, s: Trial, text: &[u8], size: usize) -> io::Result<Trial> {
-    let letter = byte_at(text, 0);
-    match letter {
-        b'T' => lend(out, s, text),
-        b'S' => Ok(set_session(s, text)),
-        b'F' => set_form(out, s, text),
-        b'P' => set_literal(out, s, text),
-        b'L' => set_line(out, s, text),
-        b'I' | b'Q' | b'B' | b'N' => {
-            let end = least(size, text.len());
-            let start = least(3, end);
-            call(out, letter, s, &text[start..end])
+        Command::Lend(forms, pool, lines) => {
+            *trial = lent(forms as usize, pool as usize, lines as usize)?;
         }
-        _ => bad(out, s),
+        Command::Resume(session) => trial.session = session,
+        Command::Form(at, cell) => trial.forms.set(at as usize, cell)?,
+        Command::Literal(at, cell) => trial.pool.set(at as usize, cell)?,
+        Command::Line(at, cell) => trial.lines.set(at as usize, cell)?,
+        Command::Call(asked) => {
+            call(out, trial, asked)?;
+            print_trial(out, trial)?;
+        }
     }
+    Ok(())
 }
 
-// What the commands left, and how many bytes they took.
-#[derive(Clone, Copy)]
-pub struct Left {
-    pub state: Trial,
-    pub used: usize,
-}
-
-// Every whole command of the text, up to a bad one. An error is one of printing.
-pub fn steps<W: Write>(out: &mut W, s: Trial, text: &[u8]) -> io::Result<Left>
-    ensures { IfOk result (λ left. left.used ≤ length text.now) }
+// Every whole command of the text, up to a bad one. How many bytes they took.
+pub fn steps<W: Write>(out: &mut W, trial: &mut Trial, text: &[u8]) -> Result<usize, Failure>
+    ensures { IfOk result (λ used. used ≤ length text.now) }
 {
-    let mut state = s;
-    let mut used: usize = 0;
-    while used < text.len() {
-        let rest = &text[used..];
-        let size = size(rest);
-        if rest.len() < size || state.is_bad {
-            return Ok(Left { state, used });
-        }
-        let next = step(out, state, rest, size)?;
-        state = next;
-        used += size;
+    let mut reader = Reader { rest: text };
+    let mut used = 0;
+    while let Some(command) = reader.command() {
+        obey(out, trial, command?)?;
+        used = text.len() - reader.rest.len();
     }
-    Ok(Left { state, used })
+    Ok(used)
 }

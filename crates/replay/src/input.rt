@@ -2,35 +2,16 @@
 use std::io;
 use std::io::Read;
 
-// What a file still has: more bytes, none, or some that cannot be read, with the reason.
-#[derive(Clone, Copy)]
-pub enum Left {
-    More,
-    Nothing,
-    Unreadable(io::Error),
-}
-
-// Whether the bytes that were read are the file's last.
-pub fn is_end(left: Left) -> bool {
-    match left {
-        Left::More => false,
-        Left::Nothing => true,
-        Left::Unreadable(_) => false,
-    }
-}
-
-// How many bytes of the buffer are filled, and what is left of the file.
+// How many bytes of the buffer are filled, and whether they are the file's last, or why the bytes behind them cannot be read.
 #[derive(Clone, Copy)]
 pub struct Filled {
     pub count: usize,
-    pub left: Left,
+    pub is_last: io::Result<bool>,
 }
 
-// What a read that gave no byte says.
-fn after(got: io::Result<usize>) -> Left {
-    match got {
-        Ok(_) => Left::Nothing,
-        Err(error) => Left::Unreadable(error),
+impl Filled {
+    fn new(count: usize, is_last: io::Result<bool>) -> Filled {
+        Filled { count, is_last }
     }
 }
 
@@ -38,26 +19,18 @@ fn after(got: io::Result<usize>) -> Left {
 pub fn fill<R: Read>(file: &mut R, buffer: &mut [u8], held: usize) -> Filled {
     let most = buffer.len();
     if most < held {
-        return Filled {
-            count: 0,
-            left: Left::Unreadable(io::Error::from(io::ErrorKind::InvalidInput)),
-        };
+        return Filled::new(0, Err(io::Error::from(io::ErrorKind::InvalidInput)));
     }
     let mut count = held;
+    // Each read goes behind the one before, as far as it came.
     while count < most {
         let part = &mut buffer[count..most];
-        let got = file.read(part);
-        let n = got.unwrap_or(0);
-        if n == 0 {
-            return Filled {
-                count,
-                left: after(got),
-            };
-        }
+        let n = match file.read(part) {
+            Ok(0) => return Filled::new(count, Ok(true)),
+            Ok(n) => n,
+            Err(why) => return Filled::new(count, Err(why)),
+        };
         count += n;
     }
-    Filled {
-        count,
-        left: Left::More,
-    }
+    Filled::new(count, Ok(false))
 }

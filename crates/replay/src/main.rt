@@ -62,16 +62,15 @@ fn replay_named<H: Env + Files + Eprint + AllocGlobal, W: Write>(
     replay_file(rt, name, several, out)
 }
 
-// How many arguments there are, the program's name among them.
+// How many arguments there are, the program's name among them. Not by `env::args`, which gives none where one is not UTF-8: the files before it
+// and behind it are read.
 fn arg_count<H: Env>(rt: &H) -> usize {
-    let mut count: usize = 0;
-    while count < usize::MAX {
+    for count in 0..usize::MAX {
         if let Err(FillError::NotPresent) = rt.arg(count, &mut []) {
             return count;
         }
-        count += 1;
     }
-    count
+    usize::MAX
 }
 
 fn main(rt: HostRuntime) -> io::Result<()> {
@@ -80,10 +79,8 @@ fn main(rt: HostRuntime) -> io::Result<()> {
     if count < 2 {
         return file::replay(&rt, &mut rt.stdin(), "standard input", &mut out);
     }
-    let mut i: usize = 1;
-    while i < count {
+    for i in 1..count {
         replay_named(&rt, i, 2 < count, &mut out)?;
-        i += 1;
     }
     Ok(())
 }

@@ -1,14 +1,13 @@
 // The lines that are printed of a file: its name, its totals, its counts and what stopped it; or why it cannot be read.
 use pieces::Progress;
-use printing::{print, print_numbered};
+use printing::stop_number;
+use session::answers::Refusal;
 use std::io;
 use std::io::Write;
 
 // The name of a file.
 pub fn title<W: Write>(out: &mut W, name: &str) -> io::Result<()> {
-    print(out, b"file ")?;
-    print(out, name.as_bytes())?;
-    print(out, b"\n")
+    writeln!(out, "file {name}")
 }
 
 // The system's errors end with their number, which is not said.
@@ -26,13 +25,17 @@ pub fn unread<H: Eprint + AllocGlobal>(rt: &H, what: &str, why: io::Error) -> io
     eprintln!(rt; "{what}: {words}")
 }
 
-pub fn totals<W: Write>(out: &mut W, progress: Progress, stop: u16) -> io::Result<()> {
+pub fn totals<W: Write>(
+    out: &mut W,
+    progress: Progress,
+    stop: Result<(), Refusal>,
+) -> io::Result<()> {
     let s = progress.session;
-    print_numbered(out, b"records", progress.records)?;
-    print_numbered(out, b"bytes", progress.bytes)?;
-    print_numbered(out, b"forms", s.forms as u64)?;
-    print_numbered(out, b"lines", s.lines as u64)?;
-    print_numbered(out, b"literals", s.literals as u64)?;
-    print_numbered(out, b"open", s.open as u64)?;
-    print_numbered(out, b"stop", stop as u64)
+    writeln!(out, "records {}", progress.records)?;
+    writeln!(out, "bytes {}", progress.bytes)?;
+    writeln!(out, "forms {}", s.forms)?;
+    writeln!(out, "lines {}", s.lines)?;
+    writeln!(out, "literals {}", s.literals)?;
+    writeln!(out, "open {}", s.open)?;
+    writeln!(out, "stop {}", stop_number(stop))
 }

@@ -1,9 +1,9 @@
 -- `drive::steps::steps` takes no more bytes than the text has, and ends: each command takes some.
-use Rattle.std.proofs.Common.{length, ◌≤◌, ◌-◌}
+use Rattle.std.proofs.Common.{length, ◌≤◌}
 use Rattle.drive.proofs.steps.steps.Given as goal
 
-abbrev pub invariant-loop-used : goal.invariant-loop-used
-invariant-loop-used g l = l.used ≤ length l.text
+abbrev pub invariant-loop-command : goal.invariant-loop-command
+invariant-loop-command g l = (l.used ≤ length l.text) × (length l.reader.rest.now ≤ length l.text)
 
-abbrev pub decreases-loop-used : goal.decreases-loop-used
-decreases-loop-used g l = length l.text - l.used
+abbrev pub decreases-loop-command : goal.decreases-loop-command
+decreases-loop-command g l = length l.reader.rest.now

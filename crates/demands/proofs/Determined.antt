@@ -5,6 +5,7 @@ use mathlib.Core.Bool.{Bool}
 use mathlib.Core.List.{List, [], ◌∷◌}
 use Prim.Native.Nat.{ℕ}
 use lib.ListN.{get_or}
+use Rattle.std.specs.Prelude.{Result, Ok, Err, Option, Some, None}
 use Rattle.ledger.specs.Record as ledger
 use Rattle.ledger.specs.Standing.{refuted, not_refuted}
 use Rattle.session.specs.declared.state.Session.{Session}
@@ -12,21 +13,13 @@ use Rattle.session.specs.declared.answers.Refusal.{Refusal}
 use Rattle.session.specs.declared.answers.Refusal.TheVariants.{ShortTable, NotInOrder, WrongLength, UnknownMark, CountOutside, IllegalContent, NoRoom, NotInForce, NotAscending, NotAllowed, ConditionFails, LineTooLong, NoLevelOpen}
 use Rattle.session.specs.declared.answers.Made.{Made}
 use Rattle.session.specs.declared.answers.Made.TheVariants as Mades
-use Rattle.session.specs.declared.answers.Answer.{Answer}
-use Rattle.session.specs.declared.answers.Answer.TheVariants as Answers
-use Rattle.session.specs.declared.answers.Verdict.{Verdict}
-use Rattle.session.specs.declared.answers.Verdict.TheVariants as Verdicts
-use Rattle.session.specs.declared.answers.Start.{Start}
-use Rattle.session.specs.declared.answers.Start.TheVariants as Beginnings
-use Rattle.session.specs.declared.answers.Standing.{Standing}
-use Rattle.session.specs.declared.answers.Standing.TheVariants as Standings
 use Rattle.session.specs.declared.start.Begun.{Begun}
 use Rattle.session.specs.Cells.{Tables}
 use Rattle.session.specs.Answers.{number_of, made_of, answer_of, finding_of}
 use Rattle.session.specs.Calls.{Started, started, not_started, Beginning, start_of, beginning_of, Starts, Stands, stands, no_standing, stands_of, Tells}
 use Rattle.checker.specs.declared.keep.Fed.{Fed}
 use Rattle.stream.specs.declared.Ran.{Ran}
-use Rattle.laid.specs.Result.{Result}
+use Rattle.laid.specs.Result as laid
 use Rattle.checker.specs.Feed.{result_of, Feeds}
 use Rattle.stream.specs.Run.{Totals, stop_number, totals_of, Runs}
 use Rattle.pieces.specs.declared.Next.{Next}
@@ -48,54 +41,54 @@ use Rattle.zarnowiej.specs.Crossing.{Left, left, StartCrosses, FeedCrosses, RunC
 apart : {A B : Type 0} (to : A → B) (back : B → A) → ((x : A) → back (to x) ≡ x) → {x y : A} → to x ≡ to y → x ≡ y
 apart to back known {x} {y} e = sym (known x) ∙ ap back e ∙ known y
 
-verdicts : List Verdict
+verdicts : List (Result (Unit {0}) Refusal)
 verdicts =
-    Verdicts.Pass
-    ∷ Verdicts.Fail ShortTable
-    ∷ Verdicts.Fail NotInOrder
-    ∷ Verdicts.Fail WrongLength
-    ∷ Verdicts.Fail UnknownMark
-    ∷ Verdicts.Fail CountOutside
-    ∷ Verdicts.Fail IllegalContent
-    ∷ Verdicts.Fail NoRoom
-    ∷ Verdicts.Fail NotInForce
-    ∷ Verdicts.Fail NotAscending
-    ∷ Verdicts.Fail NotAllowed
-    ∷ Verdicts.Fail ConditionFails
-    ∷ Verdicts.Fail LineTooLong
-    ∷ Verdicts.Fail NoLevelOpen
+    Ok tt
+    ∷ Err ShortTable
+    ∷ Err NotInOrder
+    ∷ Err WrongLength
+    ∷ Err UnknownMark
+    ∷ Err CountOutside
+    ∷ Err IllegalContent
+    ∷ Err NoRoom
+    ∷ Err NotInForce
+    ∷ Err NotAscending
+    ∷ Err NotAllowed
+    ∷ Err ConditionFails
+    ∷ Err LineTooLong
+    ∷ Err NoLevelOpen
     ∷ []
 
 -- of the number that stops a run, where 0 is no refusal's
-abbrev verdict : ℕ → Verdict
-verdict k = get_or verdicts k Verdicts.Pass
+abbrev verdict : ℕ → Result (Unit {0}) Refusal
+verdict k = get_or verdicts k (Ok tt)
 
-verdict_known : (v : Verdict) → verdict (stop_number (finding_of v)) ≡ v
+verdict_known : (v : Result (Unit {0}) Refusal) → verdict (stop_number (finding_of v)) ≡ v
 unfolding verdicts
-verdict_known Verdicts.Pass = refl
-verdict_known (Verdicts.Fail ShortTable) = refl
-verdict_known (Verdicts.Fail NotInOrder) = refl
-verdict_known (Verdicts.Fail WrongLength) = refl
-verdict_known (Verdicts.Fail UnknownMark) = refl
-verdict_known (Verdicts.Fail CountOutside) = refl
-verdict_known (Verdicts.Fail IllegalContent) = refl
-verdict_known (Verdicts.Fail NoRoom) = refl
-verdict_known (Verdicts.Fail NotInForce) = refl
-verdict_known (Verdicts.Fail NotAscending) = refl
-verdict_known (Verdicts.Fail NotAllowed) = refl
-verdict_known (Verdicts.Fail ConditionFails) = refl
-verdict_known (Verdicts.Fail LineTooLong) = refl
-verdict_known (Verdicts.Fail NoLevelOpen) = refl
+verdict_known (Ok tt) = refl
+verdict_known (Err ShortTable) = refl
+verdict_known (Err NotInOrder) = refl
+verdict_known (Err WrongLength) = refl
+verdict_known (Err UnknownMark) = refl
+verdict_known (Err CountOutside) = refl
+verdict_known (Err IllegalContent) = refl
+verdict_known (Err NoRoom) = refl
+verdict_known (Err NotInForce) = refl
+verdict_known (Err NotAscending) = refl
+verdict_known (Err NotAllowed) = refl
+verdict_known (Err ConditionFails) = refl
+verdict_known (Err LineTooLong) = refl
+verdict_known (Err NoLevelOpen) = refl
 
-abbrev failure : Verdict → Refusal
-failure Verdicts.Pass = ShortTable
-failure (Verdicts.Fail r) = r
+abbrev failure : Result (Unit {0}) Refusal → Refusal
+failure (Ok u) = ShortTable
+failure (Err r) = r
 
 abbrev refusal : ℕ → Refusal
 refusal k = failure (verdict k)
 
 refusal_known : (r : Refusal) → refusal (number_of r) ≡ r
-refusal_known r = ap failure (verdict_known (Verdicts.Fail r))
+refusal_known r = ap failure (verdict_known (Err r))
 
 abbrev made : ledger.Made → Made
 made (ledger.form f) = Mades.Form f
@@ -107,39 +100,39 @@ made_known (Mades.Form f) = refl
 made_known (Mades.Line i) = refl
 made_known (Mades.Level k) = refl
 
-abbrev answer : ledger.Answer → Answer
-answer (ledger.accepted m) = Answers.Accepted (made m)
-answer (ledger.refused k) = Answers.Refused (refusal k)
+abbrev answer : ledger.Answer → Result Made Refusal
+answer (ledger.accepted m) = Ok (made m)
+answer (ledger.refused k) = Err (refusal k)
 
-answer_known : (a : Answer) → answer (answer_of a) ≡ a
-answer_known (Answers.Accepted m) = ap Answers.Accepted (made_known m)
-answer_known (Answers.Refused r) = ap Answers.Refused (refusal_known r)
+answer_known : (a : Result Made Refusal) → answer (answer_of a) ≡ a
+answer_known (Ok m) = ap (λ (x : Made). Ok x) (made_known m)
+answer_known (Err r) = ap (λ (x : Refusal). Err x) (refusal_known r)
 
-abbrev beginning : Started → Start
-beginning started = Beginnings.Started
-beginning (not_started k) = Beginnings.Refused (refusal k)
+abbrev beginning : Started → Result (Unit {0}) Refusal
+beginning started = Ok tt
+beginning (not_started k) = Err (refusal k)
 
-beginning_known : (b : Start) → beginning (start_of b) ≡ b
-beginning_known Beginnings.Started = refl
-beginning_known (Beginnings.Refused r) = ap Beginnings.Refused (refusal_known r)
+beginning_known : (b : Result (Unit {0}) Refusal) → beginning (start_of b) ≡ b
+beginning_known (Ok tt) = refl
+beginning_known (Err r) = ap (λ (x : Refusal). Err x) (refusal_known r)
 
-abbrev standing_by : Stands → Standing
-standing_by (stands (refuted i)) = Standings.Refuted i
-standing_by (stands not_refuted) = Standings.NotRefuted
-standing_by (no_standing k) = Standings.Refused (refusal k)
+abbrev standing_by : Stands → Result (Option ℕ) Refusal
+standing_by (stands (refuted i)) = Ok (Some i)
+standing_by (stands not_refuted) = Ok None
+standing_by (no_standing k) = Err (refusal k)
 
-standing_known : (r : Standing) → standing_by (stands_of r) ≡ r
-standing_known (Standings.Refuted i) = refl
-standing_known Standings.NotRefuted = refl
-standing_known (Standings.Refused r) = ap Standings.Refused (refusal_known r)
+standing_known : (r : Result (Option ℕ) Refusal) → standing_by (stands_of r) ≡ r
+standing_known (Ok (Some i)) = refl
+standing_known (Ok None) = refl
+standing_known (Err r) = ap (λ (x : Refusal). Err x) (refusal_known r)
 
 abbrev next : pieces.Next → Next
 next (goes_on kept) = GoesOn kept
-next (decided stop) = Decided stop
+next (decided stop) = Decided (verdict stop)
 
 next_known : (r : Next) → next (next_of r) ≡ r
 next_known (GoesOn kept) = refl
-next_known (Decided stop) = refl
+next_known (Decided stop) = ap (λ (v : Result (Unit {0}) Refusal). Decided v) (verdict_known stop)
 
 -- ---- the calls
 
@@ -154,11 +147,11 @@ module _ (s : Session) (u : Tables) where
   pub feed_determined : (b : List ℕ) (r r' : Fed) (t t' : Tables) → Feeds s u b r t → Feeds s u b r' t' → (r ≡ r') × (t ≡ t')
   feed_determined b r r' t t' e e' =
       let same : result_of r t ≡ result_of r' t' = e ∙ sym e' in
-      let answers = apart answer_of answer answer_known (ap (λ (x : Result). x.answer) same) in
-      (λ i. record { session = (same i).session; answer = answers i }, ap (λ (x : Result). x.tables) same)
+      let answers = apart answer_of answer answer_known (ap (λ (x : laid.Result). x.answer) same) in
+      (λ i. record { session = (same i).session; answer = answers i }, ap (λ (x : laid.Result). x.tables) same)
 
   -- the lent call, whose session is the one that it altered
-  pub lent_determined : (b : List ℕ) (a a' : Answer) (q q' : Session) (t t' : Tables)
+  pub lent_determined : (b : List ℕ) (a a' : Result Made Refusal) (q q' : Session) (t t' : Tables)
       → Feeds s u b (record { session = q; answer = a }) t
       → Feeds s u b (record { session = q'; answer = a' }) t'
       → (a ≡ a') × (q ≡ q') × (t ≡ t')
@@ -169,10 +162,10 @@ module _ (s : Session) (u : Tables) where
   pub run_determined : (b : List ℕ) (r r' : Ran) (t t' : Tables) → Runs s u b r t → Runs s u b r' t' → (r ≡ r') × (t ≡ t')
   run_determined b r r' t t' e e' =
       let same : totals_of r t ≡ totals_of r' t' = e ∙ sym e' in
-      let stops = apart (λ (v : Verdict). stop_number (finding_of v)) verdict verdict_known (ap (λ (x : Totals). x.stop) same) in
+      let stops = apart (λ (v : Result (Unit {0}) Refusal). stop_number (finding_of v)) verdict verdict_known (ap (λ (x : Totals). x.stop) same) in
       (λ i. record { session = (same i).session; records = (same i).records; bytes = (same i).bytes; stop = stops i }, ap (λ (x : Totals). x.tables) same)
 
-  pub standing_determined : (r r' : Standing) → Tells s u r → Tells s u r' → r ≡ r'
+  pub standing_determined : (r r' : Result (Option ℕ) Refusal) → Tells s u r → Tells s u r' → r ≡ r'
   standing_determined r r' e e' = apart stands_of standing_by standing_known (e ∙ sym e')
 
 pub piece_determined : (p : Progress) (u : Tables) (buffer : List ℕ) (count : ℕ) (last : Bool) (r r' : Judged) (t t' : Tables) (x x' : List ℕ)

@@ -8,6 +8,7 @@ use native.Mathlib.Nat.{sub-zero}
 use native.Mathlib.Omega.{arith}
 use lib.Dec.{leb}
 use lib.ListN.{length, take, length-map}
+use Rattle.std.specs.Prelude.{Result, Ok, Err}
 use Rattle.ints.proofs.Bools.{never}
 use Rattle.rows.specs.Limits.{unknowns}
 use Rattle.ledger.specs.Limits.{most_levels}
@@ -19,8 +20,7 @@ use Rattle.ledger.specs.Split.{records_of}
 use Rattle.ledger.proofs.LegalLaws.{legal_fresh}
 use Rattle.session.specs.declared.state.Session.{Session}
 use Rattle.session.specs.declared.answers.Refusal.{Refusal}
-use Rattle.session.specs.declared.answers.Answer as code
-use Rattle.session.specs.declared.answers.Start.TheVariants as Beginnings
+use Rattle.session.specs.declared.answers.Made.{Made}
 use Rattle.session.specs.declared.start.Begun.{Begun}
 use Rattle.session.specs.Limits.{form_table, pool_table, line_table}
 use Rattle.session.specs.Cells.{Tables, named, excess, fresh_session}
@@ -29,7 +29,7 @@ use Rattle.session.specs.Answers.{number_of, answer_of, finding_of}
 use Rattle.session.specs.Calls.{entry, Started, started, not_started, Beginning, zero_tables, begun_by, start, start_of, Starts}
 use Rattle.laid.specs.Laid.{padded, forms_laid, pool_laid, lines_laid, tables_of, session_of}
 use Rattle.laid.specs.Held.{Held}
-use Rattle.laid.specs.Result.{Result}
+use Rattle.laid.specs.Result as laid
 use Rattle.checker.specs.declared.keep.Fed.{Fed}
 use Rattle.checker.specs.Feed.{stepped, feed, Feeds}
 use Rattle.checker.proofs.Beside.{laid_held, named_beside, excess_beside, entry_beside, held_again}
@@ -64,14 +64,14 @@ module _ (n : ℕ) (s : Session) (t : Tables) (b : List ℕ) (marks : length s.m
         unchanged =
             λ r.
             let e = refused_unchanged n s t b r.0 r.1 in
-            (ap (λ (x : Result). x.session) e, ap (λ (x : Result). x.tables) e);
+            (ap (λ (x : laid.Result). x.session) e, ap (λ (x : laid.Result). x.tables) e);
         ordered = ordered_again n s t b marks;
         beyond = excess_stays n s t b marks;
       }
 
 -- ---- run
 
-module _ (call : Session → Tables → List ℕ → Result) (k c : ℕ) (s : Session) (t : Tables) where
+module _ (call : Session → Tables → List ℕ → laid.Result) (k c : ℕ) (s : Session) (t : Tables) where
   -- it goes on behind a record, or stops at it
   on_or_stops : (P : Totals → Type 0) (b : List ℕ) (bs : List (List ℕ))
       → P (each_by call (k + 1) (c + length b) (call s t b).session (call s t b).tables bs)
@@ -89,7 +89,7 @@ module _ (call : Session → Tables → List ℕ → Result) (k c : ℕ) (s : Se
       go (refused j) = stops j
 
 -- records are counted on
-each_counts : (call : Session → Tables → List ℕ → Result) (k c : ℕ) (s : Session) (t : Tables) (bs : List (List ℕ))
+each_counts : (call : Session → Tables → List ℕ → laid.Result) (k c : ℕ) (s : Session) (t : Tables) (bs : List (List ℕ))
     → k ≤ (each_by call k c s t bs).records
 each_counts call k c s t [] = unfold each_by in omega arith
 each_counts call k c s t (b ∷ bs) =
@@ -98,7 +98,7 @@ each_counts call k c s t (b ∷ bs) =
     (λ j. omega arith)
 
 -- where none is counted, none was accepted
-none_accepted : (call : Session → Tables → List ℕ → Result) (c : ℕ) (s : Session) (t : Tables) (bs : List (List ℕ))
+none_accepted : (call : Session → Tables → List ℕ → laid.Result) (c : ℕ) (s : Session) (t : Tables) (bs : List (List ℕ))
     → (each_by call 0 c s t bs).records ≡ 0 → ((each_by call 0 c s t bs).session ≡ s) × ((each_by call 0 c s t bs).tables ≡ t)
 none_accepted call c s t [] = λ e. unfold each_by in (refl, refl)
 none_accepted call c s t (b ∷ bs) =
@@ -155,10 +155,10 @@ module _ (s : Session) (t : Tables) (marks : length s.marks ≡ most_levels) whe
   pub feed_keeps : (b : List ℕ) (r : Fed) (t' : Tables) → Feeds s t b r t' → Keeps unknowns (RefusedBy r.answer) s t r.session t'
   feed_keeps b r t' meets =
       told (λ q. (number_of q.0, ap answer_of q.1))
-      (subst (λ (x : Result). Keeps unknowns ((k : ℕ) × (x.answer ≡ refused k)) s t x.session x.tables) (sym meets) (feed_by unknowns s t b marks))
+      (subst (λ (x : laid.Result). Keeps unknowns ((k : ℕ) × (x.answer ≡ refused k)) s t x.session x.tables) (sym meets) (feed_by unknowns s t b marks))
 
   -- the lent call, whose session is the one that it altered
-  pub lent_keeps : (b : List ℕ) (a : code.Answer) (s' : Session) (t' : Tables) → Feeds s t b (record { session = s'; answer = a }) t'
+  pub lent_keeps : (b : List ℕ) (a : Result Made Refusal) (s' : Session) (t' : Tables) → Feeds s t b (record { session = s'; answer = a }) t'
       → Keeps unknowns (RefusedBy a) s t s' t'
   lent_keeps b a s' t' = feed_keeps b (record { session = s'; answer = a }) t'
 
@@ -243,7 +243,7 @@ module _ (n : ℕ) (t : Tables) where
       by (fail j) e = let z : j ≡ k = cc in ap fail z
 
 pub start_keeps : (t : Tables) (b : Begun) (t' : Tables) → Starts t b t'
-    → Begins unknowns ((why : Refusal) × (b.start ≡ Beginnings.Refused why)) (b.start ≡ Beginnings.Started) t b.session t'
+    → Begins unknowns ((why : Refusal) × (b.start ≡ Err why)) (b.start ≡ Ok tt) t b.session t'
 start_keeps t b t' meets =
     let k =
     subst (λ (x : Beginning). Begins unknowns ((k : ℕ) × (x.answer ≡ not_started k)) (x.answer ≡ started) t x.session x.tables) (sym meets)

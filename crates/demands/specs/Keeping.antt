@@ -1,16 +1,15 @@
 -- What every call keeps, whatever session and tables it got, and what a start leaves.
-use Rattle.std.specs.Prelude.{◌≡◌, ℕ}
+use Rattle.std.specs.Prelude.{◌≡◌, ℕ, Result, Err}
 use Rattle.ledger.specs.Apply.{pass}
 use Rattle.session.specs.declared.state.Session.{Session}
 use Rattle.session.specs.declared.answers.Refusal.{Refusal}
-use Rattle.session.specs.declared.answers.Answer as code
-use Rattle.session.specs.declared.answers.Answer.TheVariants as Answers
+use Rattle.session.specs.declared.answers.Made.{Made}
 use Rattle.session.specs.Cells.{Tables, named, excess, fresh_session}
 use Rattle.session.specs.Calls.{entry, zero_tables}
 
 -- an answer that is a refusal
-abbrev pub RefusedBy : code.Answer → Type 0
-RefusedBy a = (why : Refusal) × (a ≡ Answers.Refused why)
+abbrev pub RefusedBy : Result Made Refusal → Type 0
+RefusedBy a = (why : Refusal) × (a ≡ Err why)
 
 -- over n unknowns, of a call that got s and t and left s' and t'
 pub record Keeps (n : ℕ) (Refused : Type 0) (s : Session) (t : Tables) (s' : Session) (t' : Tables) : Type 0 where

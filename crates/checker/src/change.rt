@@ -35,5 +35,14 @@ pub fn change_of(
         lines,
     };
     let p = propose::propose(in_force, before, bytes, m, scratch);
-    settle::settle(top, forms, pool, lines, p, scratch)
+    settle::settle(
+        top,
+        forms,
+        pool,
+        lines,
+        p,
+        &scratch.cells,
+        &scratch.first,
+        &scratch.second,
+    )
 }

@@ -21,6 +21,10 @@ use Rattle.proposals.specs.declared.Proposal.TheVariants.{Form, Line, Opens, Wit
 abbrev pub blank : Scratch
 blank = record { cells = replicate most_terms (pos 0); first = replicate longest_line 0; second = replicate longest_line 0 }
 
+-- three lists as a scratch
+abbrev pub scratch_of : List ℤ → List ℕ → List ℕ → Scratch
+scratch_of cells xs ys = record { cells = cells; first = xs; second = ys }
+
 -- a derived line, and a premise, which is the second list alone
 abbrev pub derived_from : ℕ → ℕ → NewLine
 derived_from n m = record { origin = derived; first = n; second = m }

@@ -1,9 +1,9 @@
 // What is proposed by a verdict: its refusal, or where it passes a derived line of forms.
-ghost use Rattle.std.specs.Prelude.{◌∷◌, [], map, take, ◌+◌, ◌*◌, ◌≤◌};
+ghost use Rattle.std.specs.Prelude.{◌≡◌, List, ◌∷◌, [], ℕ, ℤ, map, length, ◌+◌, ◌*◌, ◌≤◌};
 ghost use Rattle.ledger.specs.Limits.{longest_line};
 ghost use Rattle.ledger.specs.Literals.{unnegated, negated, line_of};
 ghost use Rattle.ledger.specs.Checks.{derived_line};
-ghost use Rattle.proposals.specs.Proposing.{ProposesBy, LowTwo, LowThree, LowAll, DifferentAll};
+ghost use Rattle.proposals.specs.Proposing.{scratch_of, ProposesBy, LowTwo, LowThree, LowAll, DifferentAll};
 
 use crate::{NewLine, Proposal, Scratch};
 use session::answers::Refusal;
@@ -44,31 +44,32 @@ pub fn three(
     Ok(Proposal::Line(NewLine::derived(1, m)))
 }
 
-// The first so many forms of the first list, all negated.
+// Forms, all negated: a line of the second list alone.
 pub fn all_negated(
     v: Result<(), Refusal>,
-    count: usize,
-    scratch: &mut Scratch,
+    picks: &[u16],
+    second: &mut [u16],
 ) -> Result<Proposal, Refusal>
-    requires { LowAll v (take count scratch.old.first) × (count ≤ longest_line) }
-    ensures { ProposesBy v (derived_line (map negated (take count scratch.old.first))) result scratch.new }
+    requires { LowAll v picks.now × (length picks.now ≤ longest_line) × (length second.old ≡ longest_line) }
+    ensures { (cells : List ℤ) (xs : List ℕ) → ProposesBy v (derived_line (map negated picks.now)) result (scratch_of cells xs second.new) }
 {
     v?;
-    literals::write::write_literals(&mut scratch.second, &scratch.first[..count], 1);
-    Ok(Proposal::Line(NewLine::derived(0, count)))
+    literals::write::write_literals(second, picks, 1);
+    Ok(Proposal::Line(NewLine::derived(0, picks.len())))
 }
 
-// The first so many forms of the first list, in any order, none negated.
+// Forms in any order, none negated: a line of the second list alone.
 pub fn all_unnegated(
     v: Result<(), Refusal>,
-    count: usize,
-    scratch: &mut Scratch,
+    picks: &[u16],
+    second: &mut [u16],
 ) -> Result<Proposal, Refusal>
-    requires { LowAll v (take count scratch.old.first) × DifferentAll v (take count scratch.old.first) × (count ≤ longest_line) }
-    ensures { ProposesBy v (derived_line (line_of (map unnegated (take count scratch.old.first)))) result scratch.new }
+    requires { LowAll v picks.now × DifferentAll v picks.now × (length picks.now ≤ longest_line) × (length second.old ≡ longest_line) }
+    ensures { (cells : List ℤ) (xs : List ℕ) → ProposesBy v (derived_line (line_of (map unnegated picks.now))) result (scratch_of cells xs second.new) }
 {
     v?;
-    literals::write::write_literals(&mut scratch.second, &scratch.first[..count], 0);
-    literals::sort::sort(&mut scratch.second[..count]);
+    let count = picks.len();
+    literals::write::write_literals(second, picks, 0);
+    literals::sort::sort(&mut second[..count]);
     Ok(Proposal::Line(NewLine::derived(0, count)))
 }

@@ -28,8 +28,8 @@ fn propose_rule(
     ensures { Proposes result scratch.new (proposed unknowns (forms_read forms.entry) (lines_read lines.entry) (make (rule_from bytes.now (rule_mark_of m)))) }
 {
     match m {
-        RuleMark::Fm => rules::entries::form(bytes, scratch),
-        RuleMark::Pm => rules::entries::premise(forms.count, bytes, scratch),
+        RuleMark::Fm => rules::entries::form(bytes, &mut scratch.cells),
+        RuleMark::Pm => rules::entries::premise(forms.count, bytes, &mut scratch.second),
         RuleMark::Rs => resolution::resolve(
             forms.count,
             lines,

@@ -10,7 +10,7 @@ ghost use Rattle.ledger.specs.Apply.{finding};
 ghost use Rattle.ledger.specs.Bytes.{u16_at, numbers_behind};
 ghost use Rattle.session.specs.Answers.{finding_of};
 ghost use Rattle.fields.specs.Fields.{Listed};
-ghost use Rattle.rules.specs.Read.{forms_read, Judged, ProposesRule};
+ghost use Rattle.rules.specs.Read.{forms_read, Judged, ProposesRule, ProposesSum};
 
 use fields::numbers::u16_at;
 use proposals::derived::{all_unnegated, two};
@@ -39,11 +39,11 @@ fn judge_remainder(forms: Forms, picks: &[u16]) -> Result<(), Refusal>
 
 pub fn remainder(forms: Forms, bytes: &[u8], scratch: &mut Scratch) -> Result<Proposal, Refusal>
     requires { Listed behind_letters 2 1 longest_line bytes.now }
-    ensures { ProposesRule forms.entry (AR (numbers_behind behind_letters bytes.now)) result scratch.new }
+    ensures { ProposesSum forms.entry (AR (numbers_behind behind_letters bytes.now)) result scratch.new }
 {
     let n = fields::read_numbers(&mut scratch.first, bytes, BEHIND_LETTERS);
     let v = judge_remainder(forms, &scratch.first[..n]);
-    all_unnegated(v, n, scratch)
+    all_unnegated(v, &scratch.first[..n], &mut scratch.second)
 }
 
 fn judge_loosening(forms: Forms, g: u16, h: u16) -> Result<(), Refusal>

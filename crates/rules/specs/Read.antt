@@ -13,7 +13,7 @@ use Rattle.session.specs.Answers.{finding_of}
 use Rattle.session.specs.declared.answers.Refusal.{Refusal}
 use Rattle.proposals.specs.declared.Proposal.{Proposal}
 use Rattle.proposals.specs.declared.Scratch.{Scratch}
-use Rattle.proposals.specs.Proposing.{Proposes}
+use Rattle.proposals.specs.Proposing.{scratch_of, Proposes}
 use Rattle.rules.specs.declared.held.Forms.{Forms}
 use Rattle.rules.specs.declared.held.Lines.{Lines}
 
@@ -44,9 +44,15 @@ Resolves forms l p i j r s =
 abbrev pub ProposesRule : Forms → Rule → Result Proposal Refusal → Scratch → Type 0
 ProposesRule f q r s = (ls : List Line) → Proposes r s (proposed unknowns (forms_read f) ls (make q))
 
--- FM reads no table, and PM only the count of forms
-abbrev pub ProposesForm : Rule → Result Proposal Refusal → Scratch → Type 0
-ProposesForm q r s = (fs : List Form) (ls : List Line) → Proposes r s (proposed unknowns fs ls (make q))
+-- a rule on forms that makes its line of the second list alone
+abbrev pub ProposesSum : Forms → Rule → Result Proposal Refusal → Scratch → Type 0
+ProposesSum f q r s = (cells : List ℤ) (xs : List ℕ) → ProposesRule f q r (scratch_of cells xs s.second)
 
-abbrev pub ProposesPremise : ℕ → Rule → Result Proposal Refusal → Scratch → Type 0
-ProposesPremise many q r s = (fs : List Form) (ls : List Line) → length fs ≡ many → Proposes r s (proposed unknowns fs ls (make q))
+-- FM reads no table, and PM only the count of forms
+abbrev pub ProposesForm : Rule → Result Proposal Refusal → List ℤ → Type 0
+ProposesForm q r cells = (xs ys : List ℕ) (fs : List Form) (ls : List Line) → Proposes r (scratch_of cells xs ys) (proposed unknowns fs ls (make q))
+
+abbrev pub ProposesPremise : ℕ → Rule → Result Proposal Refusal → List ℕ → Type 0
+ProposesPremise many q r ys =
+    (cells : List ℤ) (xs : List ℕ) (fs : List Form) (ls : List Line) → length fs ≡ many
+    → Proposes r (scratch_of cells xs ys) (proposed unknowns fs ls (make q))

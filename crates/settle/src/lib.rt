@@ -9,10 +9,10 @@ ghost use Rattle.ledger.specs.Settles.{opens, withdraws};
 ghost use Rattle.session.specs.Limits.{form_cells, form_table};
 ghost use Rattle.session.specs.Cells.{Tables, tables};
 ghost use Rattle.session.specs.Answers.{answer_of};
-ghost use Rattle.proposals.specs.Proposing.{proposal_of, FitsIfMade};
+ghost use Rattle.proposals.specs.Proposing.{scratch_of, proposal_of, FitsIfMade};
 ghost use Rattle.settle.specs.Settling.{with_counts, with_levels, after, answer_by, InPlace, Seen, Settles, LineTables, KeepsForm, KeepsLine};
 
-use proposals::{Proposal, Scratch};
+use proposals::Proposal;
 use session::answers::{Made, Refusal};
 use session::state::{Mark, Session};
 
@@ -182,28 +182,30 @@ fn close_level(
     }))
 }
 
-// A proposal, or the refusal that stands for it, on tables that are cut to their named cells and in order, with the scratch that holds the cells
-// of its form or the two lists of its line.
+// A proposal, or the refusal that stands for it, on tables that are cut to their named cells and in order, with the cells of its form and the two
+// lists of its line: whichever lists fit, so that they need not be a scratch.
 pub fn settle(
     top: Top,
     forms: &mut [i32],
     pool: &mut [u16],
     lines: &mut [u16],
     p: Result<Proposal, Refusal>,
-    scratch: &Scratch,
+    cells: &[i32],
+    first: &[u16],
+    second: &[u16],
 ) -> Result<Change, Refusal>
-    requires { Seen unknowns top (tables forms.old pool.old lines.old) × FitsIfMade p scratch.now }
-    ensures { Settles unknowns top (tables forms.old pool.old lines.old) (proposal_of p scratch.now) result (tables forms.new pool.new lines.new) }
+    requires { Seen unknowns top (tables forms.old pool.old lines.old) × (form_cells unknowns ≤ length cells.now) × FitsIfMade p (scratch_of cells.now first.now second.now) }
+    ensures { Settles unknowns top (tables forms.old pool.old lines.old) (proposal_of p (scratch_of cells.now first.now second.now)) result (tables forms.new pool.new lines.new) }
 {
     let made = match p {
         Ok(made) => made,
         Err(why) => return Err(why),
     };
     match made {
-        Proposal::Form => keep_form(top, forms, &scratch.cells[..Session::FORM_CELLS]),
+        Proposal::Form => keep_form(top, forms, &cells[..Session::FORM_CELLS]),
         Proposal::Line(line) => {
-            let a = &scratch.first[..line.first];
-            let b = &scratch.second[..line.second];
+            let a = &first[..line.first];
+            let b = &second[..line.second];
             keep_line(top, pool, lines, a, b, line.origin)
         }
         Proposal::Opens => open_level(top),

@@ -11,7 +11,7 @@ ghost use Rattle.ledger.specs.Apply.{finding};
 ghost use Rattle.ledger.specs.Bytes.{terms_behind};
 ghost use Rattle.session.specs.Answers.{finding_of};
 ghost use Rattle.fields.specs.Fields.{Listed};
-ghost use Rattle.rules.specs.Read.{Judged, ProposesRule};
+ghost use Rattle.rules.specs.Read.{Judged, ProposesSum};
 ghost use Rattle.terms.specs.Picks.{Paired, allowed, shared};
 
 use fields::read_terms;
@@ -102,7 +102,7 @@ fn judge_clash(forms: Forms, picks: &[u16], multipliers: &[i32]) -> Result<(), R
 // FK and CL stay two functions: each has the contract of its own record. What they share is `read_terms`, `judge_terms` and `all_negated`.
 pub fn farkas(forms: Forms, bytes: &[u8], scratch: &mut Scratch) -> Result<Proposal, Refusal>
     requires { Listed behind_letters 6 1 most_terms bytes.now }
-    ensures { ProposesRule forms.entry (FK (terms_behind behind_letters bytes.now)) result scratch.new }
+    ensures { ProposesSum forms.entry (FK (terms_behind behind_letters bytes.now)) result scratch.new }
 {
     let n = read_terms(
         &mut scratch.first,
@@ -111,12 +111,12 @@ pub fn farkas(forms: Forms, bytes: &[u8], scratch: &mut Scratch) -> Result<Propo
         BEHIND_LETTERS,
     );
     let v = judge_farkas(forms, &scratch.first[..n], &scratch.cells[..n]);
-    all_negated(v, n, scratch)
+    all_negated(v, &scratch.first[..n], &mut scratch.second)
 }
 
 pub fn clash(forms: Forms, bytes: &[u8], scratch: &mut Scratch) -> Result<Proposal, Refusal>
     requires { Listed behind_letters 6 1 most_terms bytes.now }
-    ensures { ProposesRule forms.entry (CL (terms_behind behind_letters bytes.now)) result scratch.new }
+    ensures { ProposesSum forms.entry (CL (terms_behind behind_letters bytes.now)) result scratch.new }
 {
     let n = read_terms(
         &mut scratch.first,
@@ -125,5 +125,5 @@ pub fn clash(forms: Forms, bytes: &[u8], scratch: &mut Scratch) -> Result<Propos
         BEHIND_LETTERS,
     );
     let v = judge_clash(forms, &scratch.first[..n], &scratch.cells[..n]);
-    all_negated(v, n, scratch)
+    all_negated(v, &scratch.first[..n], &mut scratch.second)
 }

@@ -2,6 +2,7 @@
 use mathlib.Core.Path.{◌≡◌, refl}
 use native.Mathlib.Omega.{arith}
 use lib.ListN.{length}
+use Rattle.std.proofs.Common.{rules}
 use Rattle.rows.specs.Limits.{unknowns}
 use Rattle.rules.specs.Read.{forms_read}
 use Rattle.rules.proofs.HeldLaws.{form_count}
@@ -9,10 +10,10 @@ use Rattle.propose.proofs.Laws.{fixed_of, counted_of}
 use Rattle.propose.proofs.propose_rule.Goals as goal
 
 pub form-requires : goal.form-requires
-form-requires c = fixed_of c.args.bytes.now c.in-Fm.is c.requires refl
+form-requires c = (fixed_of c.args.bytes.now c.in-Fm.is c.requires refl, search rules)
 
 pub premise-requires : goal.premise-requires
-premise-requires c = counted_of c.args.bytes.now c.in-Pm.is c.requires refl
+premise-requires c = (counted_of c.args.bytes.now c.in-Pm.is c.requires refl, search rules)
 
 pub u16_at-requires : goal.u16_at-requires
 u16_at-requires c = let long : length c.args.bytes.now ≡ 8 = fixed_of c.args.bytes.now c.in-Rs.is c.requires refl in omega arith
@@ -57,16 +58,16 @@ pub scaling_down-requires : goal.scaling_down-requires
 scaling_down-requires c = fixed_of c.args.bytes.now c.in-Sd.is c.requires refl
 
 pub returns-in-Fm : goal.returns-in-Fm
-returns-in-Fm c = rw c.in-Fm.is (c.form.ensures _ _)
+returns-in-Fm c = rw c.in-Fm.is (c.form.ensures _ _ _ _)
 
 pub returns-in-Pm : goal.returns-in-Pm
-returns-in-Pm c = rw c.in-Pm.is (c.premise.ensures (forms_read c.args.forms) _ (form_count c.args.forms.held))
+returns-in-Pm c = rw c.in-Pm.is (c.premise.ensures _ _ (forms_read c.args.forms) _ (form_count c.args.forms.held))
 
 pub returns-in-Rs : goal.returns-in-Rs
 returns-in-Rs c = rw c.in-Rs.is (rw (c.u16_at.ensures, c.u16_at-in-Rs.ensures, c.u16_at-in-Rs-2.ensures) at (c.resolve.ensures unknowns (forms_read c.args.forms) (form_count c.args.forms.held)))
 
 pub returns-in-Fk : goal.returns-in-Fk
-returns-in-Fk c = rw c.in-Fk.is (c.farkas.ensures _)
+returns-in-Fk c = rw c.in-Fk.is (c.farkas.ensures _ _ _)
 
 pub returns-in-To : goal.returns-in-To
 returns-in-To c = rw c.in-To.is (c.totality.ensures _)
@@ -84,10 +85,10 @@ pub returns-in-Wk : goal.returns-in-Wk
 returns-in-Wk c = rw c.in-Wk.is (c.weakening.ensures _)
 
 pub returns-in-Cl : goal.returns-in-Cl
-returns-in-Cl c = rw c.in-Cl.is (c.clash.ensures _)
+returns-in-Cl c = rw c.in-Cl.is (c.clash.ensures _ _ _)
 
 pub returns-in-Ar : goal.returns-in-Ar
-returns-in-Ar c = rw c.in-Ar.is (c.remainder.ensures _)
+returns-in-Ar c = rw c.in-Ar.is (c.remainder.ensures _ _ _)
 
 pub returns-in-Lf : goal.returns-in-Lf
 returns-in-Lf c = rw c.in-Lf.is (c.loosening.ensures _)

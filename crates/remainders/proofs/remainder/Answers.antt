@@ -1,5 +1,6 @@
 -- `remainders::remainder` meets its contract.
 use mathlib.Core.Path.{refl}
+use Rattle.std.proofs.Common.{rules}
 use Rattle.rows.specs.Limits.{unknowns}
 use Rattle.ledger.specs.Record.{AR}
 use Rattle.ledger.specs.Checks.{tests, makes}
@@ -15,10 +16,10 @@ pub all_unnegated-requires : goal.all_unnegated-requires
 all_unnegated-requires c =
     let held = c.args.forms.held in
     let v = c.judge_remainder-v in
-    (low_picks held _ v.ensures, different_picks held _ v.ensures, c.read_numbers-n.ensures.few)
+    (low_picks held _ v.ensures, different_picks held _ v.ensures, lent_few c.read_numbers-n.ensures c.requires, search rules)
 
 pub returns : goal.returns
 unfolding tests makes
 returns c =
-    rw (← c.read_numbers-n.ensures.read)
-    (λ ls. proposing unknowns (forms_read c.args.forms) ls (AR _) c.judge_remainder-v.ensures refl c.all_unnegated.ensures)
+    λ cells xs. rw (← c.read_numbers-n.ensures.read)
+    (λ ls. proposing unknowns (forms_read c.args.forms) ls (AR _) c.judge_remainder-v.ensures refl (c.all_unnegated.ensures cells xs))

@@ -17,11 +17,11 @@ pub all_negated-requires : goal.all_negated-requires
 unfolding tests
 all_negated-requires c =
     let p = lent_paired c.read_terms-n.ensures (search rules) (search rules) c.requires in
-    (λ e. low_picks c.args.forms.held p _ (sym e ∙ c.judge_farkas-v.ensures), c.read_terms-n.ensures.few)
+    (λ e. low_picks c.args.forms.held p _ (sym e ∙ c.judge_farkas-v.ensures), p.few, search rules)
 
 pub returns : goal.returns
 unfolding tests makes
 returns c =
     let p = lent_paired c.read_terms-n.ensures (search rules) (search rules) c.requires in
-    rw (← c.read_terms-n.ensures.read)
-    (λ ls. proposing unknowns (forms_read c.args.forms) ls (FK _) c.judge_farkas-v.ensures (line_of_forms p) c.all_negated.ensures)
+    λ cells xs. rw (← c.read_terms-n.ensures.read)
+    (λ ls. proposing unknowns (forms_read c.args.forms) ls (FK _) c.judge_farkas-v.ensures (line_of_forms p) (c.all_negated.ensures cells xs))

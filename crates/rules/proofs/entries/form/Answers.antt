@@ -13,10 +13,10 @@ use Rattle.rules.proofs.FieldLaws.{form_refused, form_made}
 use Rattle.rules.proofs.entries.form.Goals as goal
 
 pub returns-then-not-legal : goal.returns-then-not-legal
-returns-then-not-legal c = λ fs ls. form_refused fs ls (form_from c.args.bytes.now) (sym (c.legal.ensures ∙ ap (λ (x : List ℤ). legal unknowns (form_of x)) c.read_form.ensures) ∙ not-true _ c.if-not-legal.true-raw)
+returns-then-not-legal c = λ xs ys fs ls. form_refused fs ls (form_from c.args.bytes.now) (sym (c.legal.ensures ∙ ap (λ (x : List ℤ). legal unknowns (form_of x)) c.read_form.ensures) ∙ not-true _ c.if-not-legal.true-raw)
 
 pub returns : goal.returns
-returns c = λ fs ls.
+returns c = λ xs ys fs ls.
     let many : length c.read_form.new.cells ≡ form_cells unknowns = search rules in
     form_made fs ls (form_from c.args.bytes.now) c.read_form.new.cells _ many (ap (λ (x : List ℤ). form_of x) c.read_form.ensures)
     (sym (c.legal.ensures ∙ ap (λ (x : List ℤ). legal unknowns (form_of x)) c.read_form.ensures) ∙ c.if-not-legal.false)

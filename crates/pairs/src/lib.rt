@@ -18,7 +18,7 @@ use session::answers::Refusal;
 // `both_are`, `holds` and `two`.
 pub fn totality(forms: Forms, bytes: &[u8], scratch: &mut Scratch) -> Result<Proposal, Refusal>
     requires { length bytes.now ≡ (rule_layout to).bytes }
-    ensures { ProposesRule forms.entry (TO (u16_at bytes.now 2) (u16_at bytes.now 4)) result scratch.new }
+    ensures { ProposesRule forms.entry (TO (u16_at bytes.now 2) (u16_at bytes.now 4)) result scratch.new × (scratch.new.cells ≡ scratch.old.cells) }
 {
     let a = u16_at(bytes, 2);
     let b = u16_at(bytes, 4);
@@ -59,7 +59,7 @@ fn judge_trichotomy(forms: Forms, z: u16, u: u16, v: u16) -> Result<(), Refusal>
 
 pub fn trichotomy(forms: Forms, bytes: &[u8], scratch: &mut Scratch) -> Result<Proposal, Refusal>
     requires { length bytes.now ≡ (rule_layout tr).bytes }
-    ensures { ProposesRule forms.entry (TR (u16_at bytes.now 2) (u16_at bytes.now 4) (u16_at bytes.now 6)) result scratch.new }
+    ensures { ProposesRule forms.entry (TR (u16_at bytes.now 2) (u16_at bytes.now 4) (u16_at bytes.now 6)) result scratch.new × (scratch.new.cells ≡ scratch.old.cells) }
 {
     let z = u16_at(bytes, 2);
     let u = u16_at(bytes, 4);
@@ -70,7 +70,7 @@ pub fn trichotomy(forms: Forms, bytes: &[u8], scratch: &mut Scratch) -> Result<P
 
 pub fn equation(forms: Forms, bytes: &[u8], scratch: &mut Scratch) -> Result<Proposal, Refusal>
     requires { length bytes.now ≡ (rule_layout eq).bytes }
-    ensures { ProposesRule forms.entry (EQ (u16_at bytes.now 2) (u16_at bytes.now 4)) result scratch.new }
+    ensures { ProposesRule forms.entry (EQ (u16_at bytes.now 2) (u16_at bytes.now 4)) result scratch.new × (scratch.new.cells ≡ scratch.old.cells) }
 {
     let z = u16_at(bytes, 2);
     let a = u16_at(bytes, 4);
@@ -81,7 +81,7 @@ pub fn equation(forms: Forms, bytes: &[u8], scratch: &mut Scratch) -> Result<Pro
 
 pub fn tightening(forms: Forms, bytes: &[u8], scratch: &mut Scratch) -> Result<Proposal, Refusal>
     requires { length bytes.now ≡ (rule_layout ti).bytes }
-    ensures { ProposesRule forms.entry (TI (u16_at bytes.now 2) (u16_at bytes.now 4) (i32_at bytes.now 6)) result scratch.new }
+    ensures { ProposesRule forms.entry (TI (u16_at bytes.now 2) (u16_at bytes.now 4) (i32_at bytes.now 6)) result scratch.new × (scratch.new.cells ≡ scratch.old.cells) }
 {
     let a = u16_at(bytes, 2);
     let b = u16_at(bytes, 4);
@@ -96,7 +96,7 @@ pub fn tightening(forms: Forms, bytes: &[u8], scratch: &mut Scratch) -> Result<P
 
 pub fn weakening(forms: Forms, bytes: &[u8], scratch: &mut Scratch) -> Result<Proposal, Refusal>
     requires { length bytes.now ≡ (rule_layout wk).bytes }
-    ensures { ProposesRule forms.entry (WK (u16_at bytes.now 2) (u16_at bytes.now 4)) result scratch.new }
+    ensures { ProposesRule forms.entry (WK (u16_at bytes.now 2) (u16_at bytes.now 4)) result scratch.new × (scratch.new.cells ≡ scratch.old.cells) }
 {
     let z = u16_at(bytes, 2);
     let g = u16_at(bytes, 4);

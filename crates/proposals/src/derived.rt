@@ -17,7 +17,7 @@ pub fn two(
     scratch: &mut Scratch,
 ) -> Result<Proposal, Refusal>
     requires { LowTwo v a b × (sign ≤ 1) }
-    ensures { ProposesBy v (derived_line (line_of ((2 * a + sign) ∷ unnegated b ∷ []))) result scratch.new }
+    ensures { ProposesBy v (derived_line (line_of ((2 * a + sign) ∷ unnegated b ∷ []))) result scratch.new × (scratch.new.cells ≡ scratch.old.cells) }
 {
     v?;
     scratch.first[0] = 2 * a + sign;
@@ -34,7 +34,7 @@ pub fn three(
     scratch: &mut Scratch,
 ) -> Result<Proposal, Refusal>
     requires { LowThree v a b c }
-    ensures { ProposesBy v (derived_line (line_of (unnegated a ∷ unnegated b ∷ unnegated c ∷ []))) result scratch.new }
+    ensures { ProposesBy v (derived_line (line_of (unnegated a ∷ unnegated b ∷ unnegated c ∷ []))) result scratch.new × (scratch.new.cells ≡ scratch.old.cells) }
 {
     v?;
     scratch.first[0] = 2 * a;

@@ -39,7 +39,7 @@ fn judge_remainder(forms: Forms, picks: &[u16]) -> Result<(), Refusal>
 
 pub fn remainder(forms: Forms, bytes: &[u8], scratch: &mut Scratch) -> Result<Proposal, Refusal>
     requires { Listed behind_letters 2 1 longest_line bytes.now }
-    ensures { ProposesSum forms.entry (AR (numbers_behind behind_letters bytes.now)) result scratch.new }
+    ensures { ProposesSum forms.entry (AR (numbers_behind behind_letters bytes.now)) result scratch.new × (scratch.new.cells ≡ scratch.old.cells) }
 {
     let n = fields::read_numbers(&mut scratch.first, bytes, BEHIND_LETTERS);
     let v = judge_remainder(forms, &scratch.first[..n]);
@@ -55,7 +55,7 @@ fn judge_loosening(forms: Forms, g: u16, h: u16) -> Result<(), Refusal>
 
 pub fn loosening(forms: Forms, bytes: &[u8], scratch: &mut Scratch) -> Result<Proposal, Refusal>
     requires { length bytes.now ≡ (rule_layout lf).bytes }
-    ensures { ProposesRule forms.entry (LF (u16_at bytes.now 2) (u16_at bytes.now 4)) result scratch.new }
+    ensures { ProposesRule forms.entry (LF (u16_at bytes.now 2) (u16_at bytes.now 4)) result scratch.new × (scratch.new.cells ≡ scratch.old.cells) }
 {
     let g = u16_at(bytes, 2);
     let h = u16_at(bytes, 4);
@@ -77,7 +77,7 @@ fn judge_scaling(forms: Forms, g: u16, h: u16, k: u16) -> Result<(), Refusal>
 // `judge_scaling` and `two`.
 pub fn scaling_up(forms: Forms, bytes: &[u8], scratch: &mut Scratch) -> Result<Proposal, Refusal>
     requires { length bytes.now ≡ (rule_layout su).bytes }
-    ensures { ProposesRule forms.entry (SU (u16_at bytes.now 2) (u16_at bytes.now 4) (u16_at bytes.now 6)) result scratch.new }
+    ensures { ProposesRule forms.entry (SU (u16_at bytes.now 2) (u16_at bytes.now 4) (u16_at bytes.now 6)) result scratch.new × (scratch.new.cells ≡ scratch.old.cells) }
 {
     let g = u16_at(bytes, 2);
     let h = u16_at(bytes, 4);
@@ -88,7 +88,7 @@ pub fn scaling_up(forms: Forms, bytes: &[u8], scratch: &mut Scratch) -> Result<P
 
 pub fn scaling_down(forms: Forms, bytes: &[u8], scratch: &mut Scratch) -> Result<Proposal, Refusal>
     requires { length bytes.now ≡ (rule_layout sd).bytes }
-    ensures { ProposesRule forms.entry (SD (u16_at bytes.now 2) (u16_at bytes.now 4) (u16_at bytes.now 6)) result scratch.new }
+    ensures { ProposesRule forms.entry (SD (u16_at bytes.now 2) (u16_at bytes.now 4) (u16_at bytes.now 6)) result scratch.new × (scratch.new.cells ≡ scratch.old.cells) }
 {
     let g = u16_at(bytes, 2);
     let h = u16_at(bytes, 4);

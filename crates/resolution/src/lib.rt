@@ -31,7 +31,7 @@ pub fn resolve(
     scratch: &mut Scratch,
 ) -> Result<Proposal, Refusal>
     requires { forms ≤ most_forms }
-    ensures { Resolves forms lines.entry pivot i j result scratch.new }
+    ensures { Resolves forms lines.entry pivot i j result scratch.new × (scratch.new.cells ≡ scratch.old.cells) }
 {
     if forms <= pivot || lines.count <= i || lines.count <= j {
         return Err(Refusal::NotInForce);

@@ -64,37 +64,37 @@ pub returns-in-Pm : goal.returns-in-Pm
 returns-in-Pm c = rw c.in-Pm.is (c.premise.ensures _ _ (forms_read c.args.forms) _ (form_count c.args.forms.held))
 
 pub returns-in-Rs : goal.returns-in-Rs
-returns-in-Rs c = rw c.in-Rs.is (rw (c.u16_at.ensures, c.u16_at-in-Rs.ensures, c.u16_at-in-Rs-2.ensures) at (c.resolve.ensures unknowns (forms_read c.args.forms) (form_count c.args.forms.held)))
+returns-in-Rs c = rw c.in-Rs.is (rw (c.u16_at.ensures, c.u16_at-in-Rs.ensures, c.u16_at-in-Rs-2.ensures) at (c.resolve.ensures.0 unknowns (forms_read c.args.forms) (form_count c.args.forms.held)))
 
 pub returns-in-Fk : goal.returns-in-Fk
 returns-in-Fk c = rw c.in-Fk.is (c.farkas.ensures _ _ _)
 
 pub returns-in-To : goal.returns-in-To
-returns-in-To c = rw c.in-To.is (c.totality.ensures _)
+returns-in-To c = rw c.in-To.is (c.totality.ensures.0 _)
 
 pub returns-in-Tr : goal.returns-in-Tr
-returns-in-Tr c = rw c.in-Tr.is (c.trichotomy.ensures _)
+returns-in-Tr c = rw c.in-Tr.is (c.trichotomy.ensures.0 _)
 
 pub returns-in-Eq : goal.returns-in-Eq
-returns-in-Eq c = rw c.in-Eq.is (c.equation.ensures _)
+returns-in-Eq c = rw c.in-Eq.is (c.equation.ensures.0 _)
 
 pub returns-in-Ti : goal.returns-in-Ti
-returns-in-Ti c = rw c.in-Ti.is (c.tightening.ensures _)
+returns-in-Ti c = rw c.in-Ti.is (c.tightening.ensures.0 _)
 
 pub returns-in-Wk : goal.returns-in-Wk
-returns-in-Wk c = rw c.in-Wk.is (c.weakening.ensures _)
+returns-in-Wk c = rw c.in-Wk.is (c.weakening.ensures.0 _)
 
 pub returns-in-Cl : goal.returns-in-Cl
 returns-in-Cl c = rw c.in-Cl.is (c.clash.ensures _ _ _)
 
 pub returns-in-Ar : goal.returns-in-Ar
-returns-in-Ar c = rw c.in-Ar.is (c.remainder.ensures _ _ _)
+returns-in-Ar c = rw c.in-Ar.is (c.remainder.ensures.0 _ _ _)
 
 pub returns-in-Lf : goal.returns-in-Lf
-returns-in-Lf c = rw c.in-Lf.is (c.loosening.ensures _)
+returns-in-Lf c = rw c.in-Lf.is (c.loosening.ensures.0 _)
 
 pub returns-in-Su : goal.returns-in-Su
-returns-in-Su c = rw c.in-Su.is (c.scaling_up.ensures _)
+returns-in-Su c = rw c.in-Su.is (c.scaling_up.ensures.0 _)
 
 pub returns-in-Sd : goal.returns-in-Sd
-returns-in-Sd c = rw c.in-Sd.is (c.scaling_down.ensures _)
+returns-in-Sd c = rw c.in-Sd.is (c.scaling_down.ensures.0 _)

@@ -47,6 +47,8 @@ fn change_form(trial: &mut Trial, record: &[u8]) -> Result<(), BadCommand> {
     trial.forms.set(place(record, 6), i32::from_le_bytes(*cell))
 }
 
+// By the first letter, here and when it is printed: it is read once, where it is acted on.
+
 // change: counts of forms, lines, literals and open levels; mark, a place, forms, lines and literals; or forms, pool or lines, a place and
 // what the cell there becomes.
 pub fn change(trial: &mut Trial, record: &[u8]) -> Result<(), BadCommand> {

@@ -137,7 +137,7 @@ impl Step {
         self.number.width = self.number.width.or(Some(Width::Two));
     }
 
-    // A byte that is no digit and no sign, after the number before it.
+    // A byte that is no digit and no sign, after the number before it. Here and below the text says what to do by a byte, once each.
     fn take_other(&mut self, byte: u8) {
         match byte {
             b'.' => self.number.width = Some(Width::One),

@@ -6,6 +6,8 @@ ghost use Rattle.rows.specs.Form.{form_at};
 ghost use Rattle.rows.specs.Conditions.{neighbours};
 ghost use Rattle.rows.specs.Summable.{row_at, Picked};
 
+// `Picked` stays a clause: it speaks of a table and of picks, which no call keeps together.
+
 // Whether every picked form has this divisor.
 pub fn divisors_are(table: &[i32], picks: &[u16], divisor: i32) -> bool
     requires { Picked unknowns table.now picks.now }

@@ -47,7 +47,7 @@ pub fn legal(cells: &[i32]) -> bool
     all_in_range(&cells[2..])
 }
 
-// Whether a form of this kind, by its number, may be added m times.
+// Whether a form of this kind may be added m times. The kind is the number that a cell holds, whichever that is.
 #[tactic(auto, unfolding(rows::specs::Form::legal_multiplier))]
 pub fn legal_multiplier(kind: i32, m: i32) -> bool
     ensures { result ≡ legal_multiplier kind m }

@@ -10,7 +10,8 @@ use trial::{BadCommand, Trial};
 pub const BUFFER: usize = 131_072;
 
 // Where the bytes end after one read, behind those that wait: at the same place, if there is nothing more. At the end, bytes that wait are a
-// command cut short. A failed read is no end of the input.
+// command cut short. A failed read is no end of the input. A buffer and a
+// count: to read into a slice that grows, the rest of the buffer has to be kept beside it.
 fn receive<R: Read>(input: &mut R, buffer: &mut [u8], held: usize) -> Result<usize, Failure>
     requires { held ≤ length buffer.old }
     ensures end { IfOk result (λ end. end ≤ length buffer.new) }

@@ -13,6 +13,9 @@ use session::state::Session;
 
 pub mod numbers;
 
+// Here and below by places: a number is read from its place in the bytes, which are never cut. And `Listed` stays a clause: it speaks of bytes
+// beside a place, a width and a range, which each reader has its own.
+
 // The form of FM, as the cells that it would take.
 pub fn read_form(cells: &mut [i32], bytes: &[u8])
     requires { (length cells.old ≡ carried + 3) × (length bytes.now ≡ (rule_layout fm).bytes) }
@@ -39,7 +42,7 @@ pub fn read_numbers(cells: &mut [u16], bytes: &[u8], place: usize) -> usize
     count
 }
 
-// The terms behind the count at this place, to the front of the two lists; and how many they are.
+// The terms behind the count at this place, to the front of the two lists; and how many they are, as above.
 #[tactic(auto, using(crate::proofs::FilledLaws::filling))]
 pub fn read_terms(forms: &mut [u16], multipliers: &mut [i32], bytes: &[u8], place: usize) -> usize
     requires { (length forms.old ≡ most_terms) × (length multipliers.old ≡ most_terms) × Listed place 6 1 most_terms bytes.now }

@@ -12,6 +12,7 @@ pub fn forms_hold(forms: &[i32], count: usize) -> bool
     requires { form_cells unknowns * count ≤ length forms.now }
     ensures { Exactly result (FormsGood unknowns forms.now count) }
 {
+    // By places: what holds is said of the form at a place.
     for f in 0..count {
         let at = Session::FORM_CELLS * f;
         if !contents::content::legal(&forms[at..at + Session::FORM_CELLS]) {

@@ -55,6 +55,7 @@ pub fn levels_hold(s: Session, pool: &[u16], lines: &[u16]) -> bool
     let here = s.counts();
     let open = s.open as usize;
     let mut low = Mark::default();
+    // By places: above the last mark stand the present counts.
     for i in 0..=open {
         let m = edge_at(s, i);
         if !level_holds(pool, lines, here, low, m) {

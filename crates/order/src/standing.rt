@@ -14,6 +14,7 @@ fn lowest_empty(lines: &[u16], count: u16) -> Option<u16>
     ensures { standing_of result ≡ lowest_empty lines.now 0 count }
 {
     let mut from: u16 = 0;
+    // By places: the place is the answer.
     for i in 0..count {
         let end = lines[Session::LINE_CELLS * (i as usize)];
         if end == from {

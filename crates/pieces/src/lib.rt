@@ -65,7 +65,7 @@ fn holding(buffer: &[u8], count: usize) -> usize
 }
 
 // The bytes that the buffer holds, count of them or all that it has, which may be the file's last. Whatever is lent, nothing has to be
-// tested first.
+// tested first. A buffer and a count, since a count that the buffer has not stands for all of it, and what is kept goes to its front.
 pub fn judge_piece(
     progress: Progress,
     forms: &mut [i32],

@@ -16,7 +16,7 @@ use records::marks::{RecordMark, RuleMark};
 use rules::held::{Forms, Lines};
 use session::answers::Refusal;
 
-// A rule, by its mark.
+// A rule, by its mark. `OfMark` stays a clause: it speaks of the bytes beside a mark.
 fn propose_rule(
     forms: Forms,
     lines: Lines,

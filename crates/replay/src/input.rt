@@ -15,7 +15,7 @@ impl Filled {
     }
 }
 
-// Fills the buffer behind the bytes that are held, until it is full or the file has no more.
+// Fills the buffer behind the bytes that are held, until it is full or the file has no more. A buffer and a count, as `judge_piece` takes them.
 pub fn fill<R: Read>(file: &mut R, buffer: &mut [u8], held: usize) -> Filled {
     let most = buffer.len();
     if most < held {

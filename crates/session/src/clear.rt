@@ -13,7 +13,7 @@ pub fn clear<T: Copy>(cells: &mut [T], zero: T)
     }
 }
 
-// A long part is cleared half by half.
+// A long part is cleared half by half: where instructions are counted, a long `memset` counts byte by byte.
 #[tactic(auto, using(crate::proofs::Filling::filling))]
 fn clear_part<T: Copy>(cells: &mut [T], zero: T)
     ensures { cells.new ≡ replicate (length cells.old) zero }

@@ -111,7 +111,7 @@ fn keep_form(top: Top, forms: &mut [i32], cells: &[i32]) -> Result<Change, Refus
     Ok(Change::Adds(made, more))
 }
 
-// One line more: the literals of a and b, joined.
+// One line more: the literals of a and b, joined. The origin is the number that `add_line` writes.
 fn keep_line(
     top: Top,
     pool: &mut [u16],
@@ -158,7 +158,8 @@ fn open_level(top: Top) -> Result<Change, Refusal>
     }))
 }
 
-// One level less: the counts return to the last mark, and every freed cell and the mark become 0.
+// One level less: the counts return to the last mark, and every freed cell and the mark become 0. `Seen` stays a clause here and below: it speaks of
+// the top beside three tables, and of no one value.
 fn close_level(
     top: Top,
     forms: &mut [i32],
@@ -197,6 +198,7 @@ pub fn settle(
     requires { Seen unknowns top (tables forms.old pool.old lines.old) × (form_cells unknowns ≤ length cells.now) × FitsIfMade p (scratch_of cells.now first.now second.now) }
     ensures { Settles unknowns top (tables forms.old pool.old lines.old) (proposal_of p (scratch_of cells.now first.now second.now)) result (tables forms.new pool.new lines.new) }
 {
+    // No `?`: it copies what is proposed once more.
     let made = match p {
         Ok(made) => made,
         Err(why) => return Err(why),

@@ -1,5 +1,5 @@
 // A table with room for more cells than its limit names, of which a call is lent the first ones.
-ghost use Rattle.std.specs.Prelude.{◌≤◌};
+ghost use Rattle.std.specs.Prelude.{◌≡◌, ◌≤◌, length};
 
 use crate::BadCommand;
 use std::alloc::AllocError;
@@ -12,7 +12,7 @@ pub struct Table<T, const ROOM: usize> {
     ghost fits: { lent ≤ ROOM },
 }
 
-// No derive writes it beside a ghost field.
+// No derive writes it for a struct of any type with a ghost field.
 impl<T: Copy, const ROOM: usize> Clone for Table<T, ROOM> {
     fn clone(&self) -> Result<Self, AllocError> {
         Ok(*self)
@@ -21,7 +21,9 @@ impl<T: Copy, const ROOM: usize> Clone for Table<T, ROOM> {
 
 impl<T: Copy, const ROOM: usize> Table<T, ROOM> {
     // The same cell throughout, with so many lent, or all.
-    pub fn filled(cell: T, count: usize) -> Self {
+    pub fn filled(cell: T, count: usize) -> Self
+        ensures { result.lent ≤ count }
+    {
         Table {
             cells: [cell; ROOM],
             lent: count.min(ROOM),
@@ -29,11 +31,15 @@ impl<T: Copy, const ROOM: usize> Table<T, ROOM> {
     }
 
     // Lends so many cells from now on, or all.
-    pub fn lend(&mut self, count: usize) {
+    pub fn lend(&mut self, count: usize)
+        ensures { self.new.lent ≤ count }
+    {
         self.lent = count.min(ROOM);
     }
 
-    pub fn lent(&self) -> &[T] {
+    pub fn lent(&self) -> &[T]
+        ensures { length result.now ≡ self.now.lent }
+    {
         &self.cells[..self.lent]
     }
 

@@ -13,6 +13,7 @@ pub fn lines_hold(pool: &[u16], lines: &[u16], low: Mark, m: Mark) -> bool
     let bound = 2 * m.forms;
     let stop = m.literals as usize;
     let mut from = low.literals as usize;
+    // By places: what holds is said of the line at a place.
     for k in low.lines as usize..m.lines as usize {
         let end = lines[Session::LINE_CELLS * k] as usize;
         let origin = lines[Session::LINE_CELLS * k + 1];

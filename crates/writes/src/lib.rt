@@ -20,7 +20,8 @@ pub fn add_form(count: u16, forms: &mut [i32], cells: &[i32])
     forms[at..at + Session::FORM_CELLS].copy_from_slice(cells);
 }
 
-// One line more, behind so many lines of so many literals: the literals of a and b, joined. It says where the line ends.
+// One line more, behind so many lines of so many literals: the literals of a and b, joined. It says where the line ends. The
+// origin is the number that its cell takes, whichever that is.
 pub fn add_line(
     behind: u16,
     literals: u16,

@@ -10,8 +10,11 @@ use Rattle.pairs.proofs.equation.Goals as goal
 
 pub returns-in_err-both_are : goal.returns-in_err-both_are
 unfolding tests
-returns-in_err-both_are c = ((rw (← c.u16_at-z.ensures, ← c.u16_at-a.ensures)
-    (pair_refused c.args.forms is_zero at_most _ _ (EQ _ _) (λ x y. is_either y.row x.row) (λ ls. refl) _ c.from_residual.ensures.1 c.in_err-both_are.ensures)), refl)
+returns-in_err-both_are c = (
+  rw (← c.u16_at-z.ensures, ← c.u16_at-a.ensures)
+      (pair_refused c.args.forms is_zero at_most _ _ (EQ _ _) (λ x y. is_either y.row x.row) (λ ls. refl) _ c.from_residual.ensures.1 c.in_err-both_are.ensures),
+  refl,
+)
 
 pub is_either-requires : goal.is_either-requires
 is_either-requires c = let i = both_inside c.args.forms.held is_zero at_most c.u16_at-z.result c.u16_at-a.result c.in_ok-both_are.ensures in (i.1, i.0)
@@ -21,6 +24,9 @@ two-requires c = (λ _. both_low c.args.forms.held is_zero at_most c.u16_at-z.re
 
 pub returns : goal.returns
 unfolding tests makes
-returns c = ((rw (← c.u16_at-z.ensures, ← c.u16_at-a.ensures)
-    (pair_made c.args.forms is_zero at_most _ _ (EQ _ _) (λ x y. is_either y.row x.row) (λ ls. refl) c.in_ok-both_are.ensures c.is_either.ensures
-    c.holds-v.result c.holds-v.ensures (λ ls. refl) c.two.ensures.0)), c.two.ensures.1)
+returns c = (
+  rw (← c.u16_at-z.ensures, ← c.u16_at-a.ensures)
+      (pair_made c.args.forms is_zero at_most _ _ (EQ _ _) (λ x y. is_either y.row x.row) (λ ls. refl) c.in_ok-both_are.ensures c.is_either.ensures
+      c.holds-v.result c.holds-v.ensures (λ ls. refl) c.two.ensures.0),
+  c.two.ensures.1,
+)

@@ -14,5 +14,8 @@ three-requires c = low_three c.args.forms.held _ _ _ _ c.judge_trichotomy-v.ensu
 
 pub returns : goal.returns
 unfolding tests makes
-returns c = ((rw (← c.u16_at-z.ensures, ← c.u16_at-u.ensures, ← c.u16_at-w.ensures)
-    (λ ls. proposing unknowns (forms_read c.args.forms) ls (TR _ _ _) c.judge_trichotomy-v.ensures refl c.three.ensures.0)), c.three.ensures.1)
+returns c = (
+  rw (← c.u16_at-z.ensures, ← c.u16_at-u.ensures, ← c.u16_at-w.ensures)
+      (λ ls. proposing unknowns (forms_read c.args.forms) ls (TR _ _ _) c.judge_trichotomy-v.ensures refl c.three.ensures.0),
+  c.three.ensures.1,
+)

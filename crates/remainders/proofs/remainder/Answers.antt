@@ -20,5 +20,8 @@ all_unnegated-requires c =
 
 pub returns : goal.returns
 unfolding tests makes
-returns c = ((λ cells xs. rw (← c.read_numbers-n.ensures.read)
-    (λ ls. proposing unknowns (forms_read c.args.forms) ls (AR _) c.judge_remainder-v.ensures refl (c.all_unnegated.ensures cells xs))), refl)
+returns c = (
+  λ cells xs. rw (← c.read_numbers-n.ensures.read)
+      (λ ls. proposing unknowns (forms_read c.args.forms) ls (AR _) c.judge_remainder-v.ensures refl (c.all_unnegated.ensures cells xs)),
+  refl,
+)

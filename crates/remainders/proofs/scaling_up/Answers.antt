@@ -15,5 +15,8 @@ two-requires c = (low_two c.args.forms.held _ _ _ c.judge_scaling-v.ensures, ome
 
 pub returns : goal.returns
 unfolding tests makes
-returns c = ((rw (← c.u16_at-g.ensures, ← c.u16_at-h.ensures, ← c.u16_at-k.ensures)
-    (λ ls. proposing unknowns (forms_read c.args.forms) ls (SU _ _ _) c.judge_scaling-v.ensures refl c.two.ensures.0)), c.two.ensures.1)
+returns c = (
+  rw (← c.u16_at-g.ensures, ← c.u16_at-h.ensures, ← c.u16_at-k.ensures)
+      (λ ls. proposing unknowns (forms_read c.args.forms) ls (SU _ _ _) c.judge_scaling-v.ensures refl c.two.ensures.0),
+  c.two.ensures.1,
+)

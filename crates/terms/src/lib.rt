@@ -23,6 +23,14 @@ use rules::forms::holds;
 use rules::held::Forms;
 use session::answers::Refusal;
 
+// The terms of a sum: so many forms, each with its multiplier.
+#[derive(Clone, Copy)]
+struct Terms<'a> {
+    picks: &'a [u16],
+    multipliers: &'a [i32],
+    ghost paired: { Paired picks.now multipliers.now },
+}
+
 // Whether form f has a kind of this range, and may be added m times. Kinds are numbers, as `kind` and `legal_multiplier` have them.
 fn term_allowed(forms: &[i32], f: u16, m: i32, low: i32, high: i32) -> bool
     requires { Inside unknowns forms.now f }
@@ -33,67 +41,52 @@ fn term_allowed(forms: &[i32], f: u16, m: i32, low: i32, high: i32) -> bool
 }
 
 // Whether every term is.
-fn terms_allowed(forms: &[i32], picks: &[u16], multipliers: &[i32], low: i32, high: i32) -> bool
-    requires { Picked unknowns forms.now picks.now × Paired picks.now multipliers.now }
-    ensures { result ≡ all (λ t. allowed low high (form_at unknowns forms.now t.form).kind t.multiplier) (terms picks.now multipliers.now) }
+fn terms_allowed(forms: &[i32], t: Terms, low: i32, high: i32) -> bool
+    requires { Picked unknowns forms.now t.picks.now }
+    ensures { result ≡ all (λ u. allowed low high (form_at unknowns forms.now u.form).kind u.multiplier) (terms t.entry.picks.now t.entry.multipliers.now) }
 {
-    picks
+    t.picks
         .iter()
-        .zip(multipliers)
+        .zip(t.multipliers)
         .all(|(&f, &m)| term_allowed(forms, f, m, low, high))
 }
 
 // The tests that both rules share: the forms are in force and ascend, their kinds lie in this range, and they may be added so many times.
 #[tactic(auto, unfolding(ledger::specs::Apply::finding))]
-fn judge_terms(
-    forms: Forms,
-    picks: &[u16],
-    multipliers: &[i32],
-    low: i32,
-    high: i32,
-) -> Result<(), Refusal>
-    requires { Paired picks.now multipliers.now }
-    ensures { finding_of result ≡ finding (shared unknowns forms.entry.count forms.entry.cells.now low high picks.now multipliers.now) }
+fn judge_terms(forms: Forms, t: Terms, low: i32, high: i32) -> Result<(), Refusal>
+    ensures { finding_of result ≡ finding (shared unknowns forms.entry.count forms.entry.cells.now low high t.entry.picks.now t.entry.multipliers.now) }
 {
-    if !literals::tests::all_below(picks, forms.count) {
+    if !literals::tests::all_below(t.picks, forms.count) {
         return Err(Refusal::NotInForce);
     }
-    if !literals::tests::ascend(picks) {
+    if !literals::tests::ascend(t.picks) {
         return Err(Refusal::NotAscending);
     }
-    if !terms_allowed(forms.cells, picks, multipliers, low, high) {
+    if !terms_allowed(forms.cells, t, low, high) {
         return Err(Refusal::NotAllowed);
     }
     Ok(())
 }
 
-fn judge_farkas(forms: Forms, picks: &[u16], multipliers: &[i32]) -> Result<(), Refusal>
-    requires { Paired picks.now multipliers.now }
-    ensures { Judged forms.entry (FK (terms picks.now multipliers.now)) result }
+fn judge_farkas(forms: Forms, t: Terms) -> Result<(), Refusal>
+    ensures { Judged forms.entry (FK (terms t.entry.picks.now t.entry.multipliers.now)) result }
 {
-    judge_terms(forms, picks, multipliers, rows::AT_MOST, rows::IS_ZERO)?;
-    match sums::combine(forms.cells, picks, multipliers, 0) {
+    judge_terms(forms, t, rows::AT_MOST, rows::IS_ZERO)?;
+    match sums::combine(forms.cells, t.picks, t.multipliers, 0) {
         Reached::Coefficient(_, _) => Err(Refusal::ConditionFails),
         Reached::Constant(k) => holds(1 <= k),
     }
 }
 
-fn judge_clash(forms: Forms, picks: &[u16], multipliers: &[i32]) -> Result<(), Refusal>
-    requires { Paired picks.now multipliers.now }
-    ensures { Judged forms.entry (CL (terms picks.now multipliers.now)) result }
+fn judge_clash(forms: Forms, t: Terms) -> Result<(), Refusal>
+    ensures { Judged forms.entry (CL (terms t.entry.picks.now t.entry.multipliers.now)) result }
 {
-    judge_terms(
-        forms,
-        picks,
-        multipliers,
-        rows::IS_DIVIDED,
-        rows::IS_DIVIDED,
-    )?;
-    let d = contents::cells::divisor(forms.cells, picks[0]);
-    if !conditions::picked::divisors_are(forms.cells, picks, d) {
+    judge_terms(forms, t, rows::IS_DIVIDED, rows::IS_DIVIDED)?;
+    let d = contents::cells::divisor(forms.cells, t.picks[0]);
+    if !conditions::picked::divisors_are(forms.cells, t.picks, d) {
         return Err(Refusal::NotAllowed);
     }
-    match sums::combine(forms.cells, picks, multipliers, d) {
+    match sums::combine(forms.cells, t.picks, t.multipliers, d) {
         Reached::Coefficient(_, _) => Err(Refusal::ConditionFails),
         Reached::Constant(k) => holds(!contents::exact::is_multiple(k, d)),
     }
@@ -110,7 +103,11 @@ pub fn farkas(forms: Forms, bytes: &[u8], scratch: &mut Scratch) -> Result<Propo
         bytes,
         BEHIND_LETTERS,
     );
-    let v = judge_farkas(forms, &scratch.first[..n], &scratch.cells[..n]);
+    let t = Terms {
+        picks: &scratch.first[..n],
+        multipliers: &scratch.cells[..n],
+    };
+    let v = judge_farkas(forms, t);
     all_negated(v, &scratch.first[..n], &mut scratch.second)
 }
 
@@ -124,6 +121,10 @@ pub fn clash(forms: Forms, bytes: &[u8], scratch: &mut Scratch) -> Result<Propos
         bytes,
         BEHIND_LETTERS,
     );
-    let v = judge_clash(forms, &scratch.first[..n], &scratch.cells[..n]);
+    let t = Terms {
+        picks: &scratch.first[..n],
+        multipliers: &scratch.cells[..n],
+    };
+    let v = judge_clash(forms, t);
     all_negated(v, &scratch.first[..n], &mut scratch.second)
 }

@@ -10,8 +10,8 @@ use Rattle.terms.proofs.TermTests.{low_picks}
 use Rattle.terms.proofs.LentTerms.{lent_paired, line_of_forms}
 use Rattle.terms.proofs.clash.Goals as goal
 
-pub judge_clash-v-requires : goal.judge_clash-v-requires
-judge_clash-v-requires c = lent_paired c.read_terms-n.ensures (search rules) (search rules) c.requires
+pub invariant_of-t : goal.invariant_of-t
+invariant_of-t c = record { paired = lent_paired c.read_terms-n.ensures (search rules) (search rules) c.requires }
 
 pub all_negated-requires : goal.all_negated-requires
 unfolding tests

@@ -12,17 +12,17 @@ use Rattle.terms.proofs.judge_farkas.Goals as goal
 
 pub returns-in_err-judge_terms : goal.returns-in_err-judge_terms
 returns-in_err-judge_terms c =
-    passed_on _ _ c.from_residual.ensures.1 (farkas_fails c.args.forms.held c.requires c.in_err-judge_terms.ensures)
+    passed_on _ _ c.from_residual.ensures.1 (farkas_fails c.args.forms.held c.args.t.paired c.in_err-judge_terms.ensures)
 
 pub combine-requires : goal.combine-requires
-combine-requires c = pass_summable c.args.forms.held c.requires at_most is_zero c.in_ok-judge_terms.ensures
+combine-requires c = pass_summable c.args.forms.held c.args.t.paired at_most is_zero c.in_ok-judge_terms.ensures
 
 pub returns-in-Coefficient : goal.returns-in-Coefficient
 returns-in-Coefficient c =
-    farkas_decides c.args.forms.held c.requires c.in_ok-judge_terms.ensures
+    farkas_decides c.args.forms.held c.args.t.paired c.in_ok-judge_terms.ensures
     (fails whole (farkas_stray _ _ _ (sym c.combine.ensures ∙ c.in-Coefficient.is)))
 
 pub returns-in-Constant : goal.returns-in-Constant
 returns-in-Constant c =
-    farkas_decides c.args.forms.held c.requires c.in_ok-judge_terms.ensures
+    farkas_decides c.args.forms.held c.args.t.paired c.in_ok-judge_terms.ensures
     (rw (farkas_reached _ c.in-Constant.k (sym c.combine.ensures ∙ c.in-Constant.is)) (rw (to_z-of_z w64 c.in-Constant.k (search rules)) at c.holds.ensures))

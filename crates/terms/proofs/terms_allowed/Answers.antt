@@ -16,15 +16,15 @@ pub all-requires-clause-callable : goal.all-requires-clause-callable
 all-requires-clause-callable c =
     let a = c.args in
     serves_from_places
-    (YieldsList-from_zip (YieldsList-from_slice a.picks.now (search rules)) (YieldsList-from_slice a.multipliers.now (search rules)))
+    (YieldsList-from_zip (YieldsList-from_slice a.t.picks.now (search rules)) (YieldsList-from_slice a.t.multipliers.now (search rules)))
     (λ x q k. search rules)
-    (λ x k h e. search (rules, pair_inside c.requires.0 a.multipliers.now (x.0.now, x.1.now) k h e))
+    (λ x k h e. search (rules, pair_inside c.requires a.t.multipliers.now (x.0.now, x.1.now) k h e))
 
 pub returns : goal.returns
 returns c =
     let a = c.args in
     let test = term_allowed unknowns a.forms.now a.low a.high in
     all_from_yields_List (λ p. test (term p.0 p.1)) c.all.new.self _ _ c.all.ensures.ran
-    (YieldsList-from_zip (YieldsList-from_slice a.picks.now (search rules)) (YieldsList-from_slice a.multipliers.now (search rules)))
+    (YieldsList-from_zip (YieldsList-from_slice a.t.picks.now (search rules)) (YieldsList-from_slice a.t.multipliers.now (search rules)))
     (λ x b q k. search (rules, tests, to_z-of_z))
-    ∙ pairs test a.picks.now a.multipliers.now
+    ∙ pairs test a.t.picks.now a.t.multipliers.now

@@ -12,7 +12,8 @@ use session::answers::Refusal;
 use session::state::Session;
 use settle::{Change, Top};
 
-// What any bytes change, on tables that are cut to their named cells and in order.
+// What any bytes change, on tables that are cut to their named cells and in order: `Held`, which stays a clause, as it speaks of a session beside three
+// tables.
 fn change(
     s: Session,
     forms: &mut [i32],

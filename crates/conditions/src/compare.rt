@@ -1,4 +1,5 @@
 // Comparisons of two rows. Every one of them asks whether a row is n + m times another, for some n and m.
+// `Inside` stays a clause, as in `contents::cells`.
 ghost use Rattle.std.specs.Prelude.{◌≡◌, ◌<◌, length};
 ghost use Rattle.ints.specs.Tests.{eq_zs};
 ghost use Rattle.rows.specs.Limits.{unknowns};

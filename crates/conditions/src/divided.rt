@@ -1,4 +1,5 @@
 // Conditions on two divides forms of a table.
+// `Inside` stays a clause, as in `contents::cells`.
 ghost use Rattle.std.specs.Prelude.{◌≡◌};
 ghost use Rattle.rows.specs.Limits.{unknowns};
 ghost use Rattle.rows.specs.Form.{form_at};

@@ -1,4 +1,5 @@
 // TI: whether one row is another, divided and rounded up.
+// `Inside` stays a clause, as in `contents::cells`.
 ghost use Rattle.std.specs.Prelude.{◌≡◌, ◌&&◌, pos, ◌-ℤ◌, ◌*ℤ◌, ◌<◌, length};
 ghost use Rattle.std.specs.Int.Signed.{lt_z, le_z};
 ghost use Rattle.rows.specs.Limits.{unknowns};

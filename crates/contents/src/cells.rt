@@ -22,7 +22,7 @@ pub fn kind(table: &[i32], f: u16) -> i32
     table[at]
 }
 
-// The divisor of form f.
+// The divisor of form f. It and the kind are two functions, as they are two cells: one would take the cell's place as a number.
 pub fn divisor(table: &[i32], f: u16) -> i32
     requires { Inside unknowns table.now f }
     ensures { result ≡ (form_at unknowns table.now f).divisor }

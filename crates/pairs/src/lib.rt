@@ -15,7 +15,8 @@ use rules::held::Forms;
 use session::answers::Refusal;
 
 // TO, EQ and WK stay three functions: each has the contract of its own record, and they differ in kinds, condition and sign. What they share is
-// `both_are`, `holds` and `two`.
+// `both_are`, `holds` and `two`. All rules are lent forms, bytes and scratch, three arguments: a struct of them would be made for this one call. And
+// how many bytes there are stays a clause, with another number for each record.
 pub fn totality(forms: Forms, bytes: &[u8], scratch: &mut Scratch) -> Result<Proposal, Refusal>
     requires { length bytes.now ≡ (rule_layout to).bytes }
     ensures { ProposesRule forms.entry (TO (u16_at bytes.now 2) (u16_at bytes.now 4)) result scratch.new × (scratch.new.cells ≡ scratch.old.cells) }

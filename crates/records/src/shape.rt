@@ -80,7 +80,8 @@ fn marked_front(bytes: &[u8], mark: RecordMark) -> Result<Front, Refusal>
     Ok(Front { mark, size })
 }
 
-// The front record of any bytes, or that all of them are a record of a wrong shape. The mark is found once.
+// The front record of any bytes, or that all of them are a record of a wrong shape. The mark is found once. The first two tests
+// are a line each, as in `read_shape`: what each refuses is said by another contract.
 #[tactic(auto, using(ledger::proofs::FrontLaws::too_few, ledger::proofs::FrontLaws::none_known))]
 pub fn read_front(bytes: &[u8]) -> Result<Front, Refusal>
     ensures { Fronted bytes.now result }

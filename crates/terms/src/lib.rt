@@ -31,7 +31,8 @@ struct Terms<'a> {
     ghost paired: { Paired picks.now multipliers.now },
 }
 
-// Whether form f has a kind of this range, and may be added m times. Kinds are numbers, as `kind` and `legal_multiplier` have them.
+// Whether form f has a kind of this range, and may be added m times. Kinds are numbers, as `kind` and `legal_multiplier` have
+// them, and the least and the greatest are two arguments, as `is_between` takes them.
 fn term_allowed(forms: &[i32], f: u16, m: i32, low: i32, high: i32) -> bool
     requires { Inside unknowns forms.now f }
     ensures { result ≡ allowed low high (form_at unknowns forms.now f).kind m }

@@ -43,7 +43,7 @@ impl Trial {
         fed.answer
     }
 
-    // A feed with the session lent.
+    // A feed with the session lent, beside the feed above: they differ in the call that is tried.
     pub fn feed_lent(&mut self, record: &[u8]) -> Result<Made, Refusal> {
         let before = self.session;
         let (forms, pool, lines) = self.lent_mut();

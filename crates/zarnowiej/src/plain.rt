@@ -124,7 +124,7 @@ impl From<state::Session> for Session {
     }
 }
 
-// The number of the refusal, or 0 where there is none.
+// The number of the refusal, or 0 where there is none. What prints has the same without a contract, whose words stand above it.
 fn refusal_number(found: Result<(), Refusal>) -> u16
     ensures { result ≡ stop_number (finding_of found) }
 {

@@ -11,7 +11,8 @@ use rules::held::{Forms, Lines};
 use session::answers::Refusal;
 use settle::{Change, Top};
 
-// On tables that are cut to their named cells and in order: what the bytes propose, settled.
+// On tables that are cut to their named cells and in order: what the bytes propose, settled. `Seen` and `OfMark` stay
+// clauses, as in `settle` and `propose`.
 pub fn change_of(
     top: Top,
     forms: &mut [i32],

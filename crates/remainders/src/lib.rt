@@ -37,6 +37,7 @@ fn judge_remainder(forms: Forms, picks: &[u16]) -> Result<(), Refusal>
     Ok(())
 }
 
+// `Listed` here, how many bytes there are below, and the three arguments stay as they are, as in `fields` and `pairs`.
 pub fn remainder(forms: Forms, bytes: &[u8], scratch: &mut Scratch) -> Result<Proposal, Refusal>
     requires { Listed behind_letters 2 1 longest_line bytes.now }
     ensures { ProposesSum forms.entry (AR (numbers_behind behind_letters bytes.now)) result scratch.new × (scratch.new.cells ≡ scratch.old.cells) }

@@ -17,7 +17,7 @@ use records::marks::BEHIND_LETTERS;
 use session::answers::Refusal;
 use session::state::Session;
 
-// To the first cells that are lent.
+// To the first cells that are lent. How many bytes there are, and `Listed` below, stay clauses, as in `pairs` and `fields`.
 pub fn form(bytes: &[u8], cells: &mut [i32]) -> Result<Proposal, Refusal>
     requires { (length bytes.now ≡ (rule_layout fm).bytes) × (form_cells unknowns ≤ length cells.old) }
     ensures { ProposesForm (FM (form_from bytes.now)) result cells.new }

@@ -86,7 +86,7 @@ fn ended(
 }
 
 // The records of a stream on such tables. The session's parts stay in place while records pass: copying it for each of them costs more than
-// what most of them do.
+// what most of them do. `Held` stays a clause, as in `checker::feed`, and `Seen` above, as in `settle`.
 fn steps(s: Session, forms: &mut [i32], pool: &mut [u16], lines: &mut [u16], stream: &[u8]) -> Ran
     requires { Held unknowns s (tables forms.old pool.old lines.old) }
     ensures { totals_of result (tables forms.new pool.new lines.new) ≡ each_by (stepped unknowns) 0 0 s (tables forms.old pool.old lines.old) (records_of stream.now) }

@@ -41,7 +41,7 @@ fn term_allowed(forms: &[i32], f: u16, m: i32, low: i32, high: i32) -> bool
     contents::exact::is_between(low, high, kind) && contents::content::legal_multiplier(kind, m)
 }
 
-// Whether every term is.
+// Whether every term is. `Inside` above and `Picked` here stay clauses, as in `contents` and `conditions`, and the kinds numbers, as above and below.
 fn terms_allowed(forms: &[i32], t: Terms, low: i32, high: i32) -> bool
     requires { Picked unknowns forms.now t.picks.now }
     ensures { result ≡ all (λ u. allowed low high (form_at unknowns forms.now u.form).kind u.multiplier) (terms t.entry.picks.now t.entry.multipliers.now) }
@@ -94,6 +94,7 @@ fn judge_clash(forms: Forms, t: Terms) -> Result<(), Refusal>
 }
 
 // FK and CL stay two functions: each has the contract of its own record. What they share is `read_terms`, `judge_terms` and `all_negated`.
+// `Listed` and the three arguments stay as they are, as in `fields` and `pairs`.
 pub fn farkas(forms: Forms, bytes: &[u8], scratch: &mut Scratch) -> Result<Proposal, Refusal>
     requires { Listed behind_letters 6 1 most_terms bytes.now }
     ensures { ProposesSum forms.entry (FK (terms_behind behind_letters bytes.now)) result scratch.new }

@@ -50,7 +50,9 @@ impl<T: Copy, const ROOM: usize> Table<T, ROOM> {
     }
 
     // Writes a cell that is lent.
-    pub fn set(&mut self, at: usize, cell: T) -> Result<(), BadCommand> {
+    pub fn set(&mut self, at: usize, cell: T) -> Result<(), BadCommand>
+        ensures { self.new.lent ≡ self.old.lent }
+    {
         if self.lent <= at {
             return Err(BadCommand);
         }

@@ -1,5 +1,5 @@
 // A table with room for more cells than its limit names, of which a call is lent the first ones.
-ghost use Rattle.std.specs.Prelude.{◌≡◌, ◌≤◌, length};
+ghost use Rattle.std.specs.Prelude.{◌≡◌, ◌≤◌, take, set, IfOk};
 
 use crate::BadCommand;
 use std::alloc::AllocError;
@@ -22,7 +22,7 @@ impl<T: Copy, const ROOM: usize> Clone for Table<T, ROOM> {
 impl<T: Copy, const ROOM: usize> Table<T, ROOM> {
     // The same cell throughout, with so many lent, or all.
     pub fn filled(cell: T, count: usize) -> Self
-        ensures { result.lent ≤ count }
+        ensures { (count ≤ ROOM → result.lent ≡ count) × (ROOM ≤ count → result.lent ≡ ROOM) }
     {
         Table {
             cells: [cell; ROOM],
@@ -32,13 +32,13 @@ impl<T: Copy, const ROOM: usize> Table<T, ROOM> {
 
     // Lends so many cells from now on, or all.
     pub fn lend(&mut self, count: usize)
-        ensures { self.new.lent ≤ count }
+        ensures { (count ≤ ROOM → self.new.lent ≡ count) × (ROOM ≤ count → self.new.lent ≡ ROOM) }
     {
         self.lent = count.min(ROOM);
     }
 
     pub fn lent(&self) -> &[T]
-        ensures { length result.now ≡ self.now.lent }
+        ensures { result.now ≡ take self.now.lent self.now.cells }
     {
         &self.cells[..self.lent]
     }
@@ -51,7 +51,9 @@ impl<T: Copy, const ROOM: usize> Table<T, ROOM> {
 
     // Writes a cell that is lent.
     pub fn set(&mut self, at: usize, cell: T) -> Result<(), BadCommand>
-        ensures { self.new.lent ≡ self.old.lent }
+        ensures lends { self.new.lent ≡ self.old.lent }
+        ensures refused { self.old.lent ≤ at → self.new ≡ self.old }
+        ensures writes { IfOk result (λ _. self.new.cells ≡ set self.old.cells at cell) }
     {
         if self.lent <= at {
             return Err(BadCommand);

@@ -1,5 +1,5 @@
 -- What the answers of calls say, in the numbers and values of the specification.
-use Rattle.std.specs.Prelude.{◌≡◌, ℕ, Result, Ok, Err}
+use Rattle.std.specs.Prelude.{ℕ, Result, Ok, Err}
 use Rattle.ledger.specs.Record as ledger
 use Rattle.ledger.specs.Apply.{Finding, pass, fail}
 use Rattle.session.specs.declared.answers.Refusal.{Refusal}
@@ -21,10 +21,6 @@ number_of NotAllowed = 10
 number_of ConditionFails = 11
 number_of LineTooLong = 12
 number_of NoLevelOpen = 13
-
--- what the number of a refusal is
-abbrev pub HasNumber : Refusal → ℕ → Type 0
-HasNumber r k = k ≡ number_of r
 
 abbrev pub made_of : Made → ledger.Made
 made_of (Mades.Form f) = ledger.form f

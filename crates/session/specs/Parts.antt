@@ -1,4 +1,4 @@
--- What only the parts of the code say of a session and its tables: sizes, limits by their names, edges between levels.
+-- What only the parts of the code say: of a session and its tables sizes, limits by their names and edges between levels, and of a refusal its number.
 use Rattle.std.specs.Prelude.{◌≡◌, cond, Bool, true, ◌&&◌, List, [], ◌∷◌, ℕ, ◌≤◌, ltb, pos, length}
 use Rattle.rows.specs.Limits.{unknowns, largest_number, largest_divisor, largest_multiplier, most_terms}
 use Rattle.ledger.specs.Limits.{most_forms, most_lines, most_literals, most_levels, longest_line}
@@ -6,6 +6,8 @@ use Rattle.ledger.specs.Checks.{Check}
 use Rattle.session.specs.declared.state.Mark.{Mark}
 use Rattle.session.specs.declared.state.Session.{Session}
 use Rattle.session.specs.declared.state.Limits.{Limits}
+use Rattle.session.specs.declared.answers.Refusal.{Refusal}
+use Rattle.session.specs.Answers.{number_of}
 use Rattle.session.specs.Limits.{form_table, pool_table, line_table}
 use Rattle.session.specs.Cells.{Tables, counts_of, mark_at}
 
@@ -44,3 +46,7 @@ edge s i = cond (ltb i s.«open») (mark_at s i) (counts_of s)
 unfoldable pub all_pass : List Check → Bool
 all_pass [] = true
 all_pass (c ∷ cs) = c.passes && all_pass cs
+
+-- what the number of a refusal is
+abbrev pub HasNumber : Refusal → ℕ → Type 0
+HasNumber r k = k ≡ number_of r

@@ -1,5 +1,5 @@
 // What calls answer: what an acceptance made, what stands, and why a call was refused. Each refusal has its number in the specification.
-ghost use Rattle.session.specs.Answers.{HasNumber};
+ghost use Rattle.session.specs.Parts.{HasNumber};
 
 use std::fmt;
 

@@ -24,6 +24,14 @@ fn clear_part<T: Copy>(cells: &mut [T], zero: T)
         clear_part(back, zero);
         return;
     }
+    clear_at_once(cells, zero);
+}
+
+// Every cell becomes zero, in one pass. So the start clears its numbers: it is done once, and twenty passes over their parts take it twice the time.
+#[tactic(auto, using(crate::proofs::Filling::filling))]
+pub fn clear_at_once<T: Copy>(cells: &mut [T], zero: T)
+    ensures { cells.new ≡ replicate (length cells.old) zero }
+{
     for cell in cells.iter_mut() {
         *cell = zero;
     }

@@ -44,8 +44,8 @@ pub fn start(forms: &mut [i32], pool: &mut [u16], lines: &mut [u16]) -> Begun
         return Begun { session, start };
     }
     crate::clear::clear(&mut forms[0..Session::FORM_TABLE], 0);
-    crate::clear::clear(&mut pool[0..Session::POOL], 0);
-    crate::clear::clear(&mut lines[0..Session::LINE_TABLE], 0);
+    crate::clear::clear_at_once(&mut pool[0..Session::POOL], 0);
+    crate::clear::clear_at_once(&mut lines[0..Session::LINE_TABLE], 0);
     let start = Ok(());
     Begun { session, start }
 }

@@ -22,16 +22,16 @@ long_then c = passed→long unknowns _ _ c.sized.ensures c.in_default.is
 pub slice_bounds-clear-end : goal.slice_bounds-clear-end
 slice_bounds-clear-end c = (long_then c).form_room
 
-pub slice_bounds-clear-end-2 : goal.slice_bounds-clear-end-2
-slice_bounds-clear-end-2 c = (long_then (goal.at.slice_bounds-clear-end-2 c).In_default).pool_room
+pub slice_bounds-clear_at_once-end : goal.slice_bounds-clear_at_once-end
+slice_bounds-clear_at_once-end c = (long_then (goal.at.slice_bounds-clear_at_once-end c).In_default).pool_room
 
-pub slice_bounds-clear-end-3 : goal.slice_bounds-clear-end-3
-slice_bounds-clear-end-3 c = (long_then (goal.at.slice_bounds-clear-end-3 c).In_default).line_room
+pub slice_bounds-clear_at_once-end-2 : goal.slice_bounds-clear_at_once-end-2
+slice_bounds-clear_at_once-end-2 c = (long_then (goal.at.slice_bounds-clear_at_once-end-2 c).In_default).line_room
 
 pub returns : goal.returns
 returns c =
     start_passed unknowns (lent (goal.at.returns c).Start) _ c.sized.ensures
     _ c.fresh-session.ensures _ _ _ c.in_default.is
     c.clear.ensures
-    c.clear-2.ensures
-    c.clear-3.ensures
+    c.clear_at_once.ensures
+    c.clear_at_once-2.ensures

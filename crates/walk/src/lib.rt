@@ -12,25 +12,29 @@ pub fn lines_hold(pool: &[u16], lines: &[u16], low: Mark, m: Mark) -> bool
 {
     let bound = 2 * m.forms;
     let stop = m.literals as usize;
+    let mut ok = true;
     let mut from = low.literals as usize;
     // By places: what holds is said of the line at a place.
-    for k in low.lines as usize..m.lines as usize {
+    'lines: for k in low.lines as usize..m.lines as usize {
         let end = lines[Session::LINE_CELLS * k] as usize;
         let origin = lines[Session::LINE_CELLS * k + 1];
         if end < from || from + Session::LONGEST_LINE < end || stop < end {
-            return false;
+            ok = false;
+            break 'lines;
         }
         if origin < Session::PREMISE || Session::DERIVED < origin {
-            return false;
+            ok = false;
+            break 'lines;
         }
         let mut least: u16 = 0;
         for &x in &pool[from..end] {
             if x < least || bound <= x {
-                return false;
+                ok = false;
+                break 'lines;
             }
             least = x + 1;
         }
         from = end;
     }
-    true
+    ok
 }

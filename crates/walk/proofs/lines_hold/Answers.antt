@@ -14,7 +14,7 @@ use Rattle.walk.proofs.lines_hold.Goals.{then-x-least-via-then-x-least, then-x-l
 
 pub returns-then-end-from : goal.returns-then-end-from
 returns-then-end-from c =
-    let k = c.loop-k.k in
+    let k = c.lines.k in
     say_no
     (λ p.
     let g = p k (omega arith) (omega arith) in
@@ -28,10 +28,10 @@ returns-then-end-from c =
 pub returns-then-x-least : goal.returns-then-x-least
 returns-then-x-least c =
     let a = c.args in
-    let k = c.loop-k.k in
+    let k = c.lines.k in
     let i = c.loop-x.x-index in
     let n = a.m.forms in
-    let xs = literals a.pool.now a.lines.now n k c.loop-k.from c.loop-k.invariant.begins in
+    let xs = literals a.pool.now a.lines.now n k c.lines.from c.lines.invariant.begins in
     let wrong : literals_hold (2 * n) c.loop-x.least (drop i xs) ≡ false =
     elim c.then-x-least.branch [
       | then-x-least-via-then-x-least w ↦ literal_low (2 * n) c.loop-x.least i xs (omega arith) (omega arith)
@@ -39,25 +39,26 @@ returns-then-x-least c =
     ]
     in
     say_no
-    (λ p. bad_literals a.pool.now a.lines.now n k c.loop-k.from c.loop-k.invariant.begins (c.loop-x.invariant ∙ wrong) (p k (omega arith) (omega arith)))
+    (λ p. bad_literals a.pool.now a.lines.now n k c.lines.from c.lines.invariant.begins (c.loop-x.invariant.1 ∙ wrong) (p k (omega arith) (omega arith)))
 
 pub loop-x-preserved : goal.loop-x-preserved
 loop-x-preserved c =
     let a = c.args in
     let n = a.m.forms in
-    let xs = literals a.pool.now a.lines.now n c.loop-k.k c.loop-k.from c.loop-k.invariant.begins in
-    c.loop-x.invariant ∙ literal_good (2 * n) c.loop-x.least c.loop-x.x-index xs (omega arith) (omega arith) (omega arith)
+    let xs = literals a.pool.now a.lines.now n c.lines.k c.lines.from c.lines.invariant.begins in
+    (c.loop-x.invariant.0, c.loop-x.invariant.1 ∙ literal_good (2 * n) c.loop-x.least c.loop-x.x-index xs (omega arith) (omega arith) (omega arith))
 
-pub loop-k-preserved : goal.loop-k-preserved
-loop-k-preserved c =
+pub lines-preserved : goal.lines-preserved
+lines-preserved c =
     let a = c.args in
-    let k = c.loop-k.k in
+    let k = c.lines.k in
     let n = a.m.forms in
     record {
+      holds = c.loop-x.invariant.0;
       room = omega arith;
       begins = end_next a.lines.now k;
       good =
-          one_more (LineGood a.pool.now a.lines.now n) a.low.lines k c.loop-k.invariant.good
-          (good_line a.pool.now a.lines.now n k c.loop-k.from c.loop-k.invariant.begins (omega arith) (omega arith) (omega arith) (omega arith)
-          (c.loop-x.invariant ∙ literals_over (2 * n) c.loop-x.least c.loop-x.x-index _ (omega arith)));
+          one_more (LineGood a.pool.now a.lines.now n) a.low.lines k c.lines.invariant.good
+          (good_line a.pool.now a.lines.now n k c.lines.from c.lines.invariant.begins (omega arith) (omega arith) (omega arith) (omega arith)
+          (c.loop-x.invariant.1 ∙ literals_over (2 * n) c.loop-x.least c.loop-x.x-index _ (omega arith)));
     }

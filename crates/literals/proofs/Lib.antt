@@ -1,4 +1,5 @@
 pub mod Filler
+pub mod InsertLaws
 pub mod JoinLaws
 pub mod LessLaws
 pub mod SortLaws

@@ -56,7 +56,7 @@ pub fn levels_hold(s: Session, pool: &[u16], lines: &[u16]) -> bool
     let open = s.open as usize;
     let mut low = Mark::default();
     // By places: above the last mark stand the present counts.
-    for i in 0..=open {
+    for i in 0..open + 1 {
         let m = edge_at(s, i);
         if !level_holds(pool, lines, here, low, m) {
             return false;

@@ -27,5 +27,5 @@ loop-i-preserved c =
       each = good (goal.at.loop-i-preserved c).Else-not-level_holds;
     }
 
-pub returns-else-not-level_holds : goal.returns-else-not-level_holds
-returns-else-not-level_holds c = say_yes (λ k h. good (goal.at.returns-else-not-level_holds c).Else-not-level_holds k (omega arith))
+pub returns : goal.returns
+returns c = say_yes (λ k h. c.loop-i.invariant.each k (omega arith))

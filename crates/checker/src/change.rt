@@ -11,9 +11,9 @@ use rules::held::{Forms, Lines};
 use session::answers::Refusal;
 use settle::{Change, Top};
 
-// On tables that are cut to their named cells and in order: what the bytes propose, settled. `Seen` and `OfMark` stay
-// clauses, as in `settle` and `propose`.
-pub fn change_of(
+// On tables that are cut to their named cells and in order: what the bytes propose, settled, over a scratch that is lent for it. `Seen` and `OfMark`
+// stay clauses, as in `settle` and `propose`.
+pub fn change_over(
     top: Top,
     forms: &mut [i32],
     pool: &mut [u16],
@@ -46,4 +46,20 @@ pub fn change_of(
         &scratch.first,
         &scratch.second,
     )
+}
+
+// The same over a scratch of its own: whoever has one record lends none.
+pub fn change_of(
+    top: Top,
+    forms: &mut [i32],
+    pool: &mut [u16],
+    lines: &mut [u16],
+    bytes: &[u8],
+    m: RecordMark,
+) -> Result<Change, Refusal>
+    requires { Seen unknowns top (tables forms.old pool.old lines.old) × OfMark bytes.now (record_mark_of m) }
+    ensures { Changes unknowns top (tables forms.old pool.old lines.old) bytes.now result (tables forms.new pool.new lines.new) }
+{
+    let mut scratch = Scratch::new();
+    change_over(top, forms, pool, lines, bytes, m, &mut scratch)
 }

@@ -7,7 +7,6 @@ ghost use Rattle.checker.specs.Changes.{Steps};
 ghost use Rattle.checker.specs.Feed.{result_of, stepped, Feeds};
 
 use crate::keep::{Fed, refuse};
-use proposals::Scratch;
 use session::answers::Refusal;
 use session::state::Session;
 use settle::{Change, Top};
@@ -32,8 +31,7 @@ fn change(
         open: s.open,
         last,
     };
-    let mut scratch = Scratch::new();
-    crate::change::change_of(top, forms, pool, lines, bytes, m, &mut scratch)
+    crate::change::change_of(top, forms, pool, lines, bytes, m)
 }
 
 // And what comes of them.

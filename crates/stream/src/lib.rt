@@ -12,7 +12,7 @@ ghost use Rattle.checker.specs.Feed.{stepped};
 ghost use Rattle.stream.specs.Run.{totals, each_by, stop_number, totals_of, Runs};
 ghost use Rattle.stream.specs.Walk.{session_with, FrontStep};
 
-use checker::change::change_of;
+use checker::change::change_over;
 use proposals::Scratch;
 use session::answers::Refusal;
 use session::state::{Mark, Session};
@@ -54,7 +54,7 @@ fn front_step(
         Ok(front) => {
             let size = front.size;
             let bytes = &rest[0..size];
-            let change = change_of(top, forms, pool, lines, bytes, front.mark, scratch);
+            let change = change_over(top, forms, pool, lines, bytes, front.mark, scratch);
             Step { change, size }
         }
     }

@@ -1,7 +1,7 @@
--- `checker::change::change_of` meets its contract.
+-- `checker::change::change_over` meets its contract.
 use Rattle.records.specs.Marks.{record_mark_of}
 use Rattle.checker.proofs.Settled.{seen_forms, seen_lines, settled_changes}
-use Rattle.checker.proofs.change.change_of.Goals as goal
+use Rattle.checker.proofs.change.change_over.Goals as goal
 
 pub invariant_of-in_force : goal.invariant_of-in_force
 invariant_of-in_force c = record { held = seen_forms c.requires.0 }

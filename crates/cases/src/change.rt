@@ -68,7 +68,7 @@ pub fn change(trial: &mut Trial, record: &[u8]) -> Result<(), BadCommand> {
 // So many cells from this place on.
 fn print_part<W: Write>(
     out: &mut W,
-    word: &str,
+    word: &[u8],
     cells: &[u16],
     from: usize,
     count: usize,
@@ -85,12 +85,12 @@ pub fn print_named<W: Write>(out: &mut W, trial: &Trial, record: &[u8]) -> io::R
     let from = place(record, 4);
     let count = place(record, 2);
     match record.first() {
-        Some(b'c') => print_numbers(out, "counts", &[s.forms, s.lines, s.literals, s.open]),
-        Some(b'p') => print_part(out, "pool", &trial.pool.cells, from, count),
-        Some(b'l') => print_part(out, "lines", &trial.lines.cells, from, count),
+        Some(b'c') => print_numbers(out, b"counts", &[s.forms, s.lines, s.literals, s.open]),
+        Some(b'p') => print_part(out, b"pool", &trial.pool.cells, from, count),
+        Some(b'l') => print_part(out, b"lines", &trial.lines.cells, from, count),
         Some(b'u') => {
-            print_part(out, "pool", &trial.pool.cells, 0, s.literals as usize)?;
-            print_part(out, "lines", &trial.lines.cells, 0, 2 * s.lines as usize)
+            print_part(out, b"pool", &trial.pool.cells, 0, s.literals as usize)?;
+            print_part(out, b"lines", &trial.lines.cells, 0, 2 * s.lines as usize)
         }
         _ => writeln!(out, "{BadCommand}"),
     }

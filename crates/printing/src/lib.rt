@@ -7,8 +7,8 @@ use std::io;
 use std::io::Write;
 
 // A word and as many numbers as there are, as a line.
-pub fn print_numbers<W: Write>(out: &mut W, word: &str, numbers: &[u16]) -> io::Result<()> {
-    write!(out, "{word}")?;
+pub fn print_numbers<W: Write>(out: &mut W, word: &[u8], numbers: &[u16]) -> io::Result<()> {
+    out.write_all(word)?;
     for n in numbers {
         write!(out, " {n}")?;
     }

@@ -2,21 +2,12 @@
 ghost use Rattle.std.specs.Prelude.{◌≡◌, ◌≤◌, take, set, IfOk};
 
 use crate::BadCommand;
-use std::alloc::AllocError;
 
-#[derive(Copy, PartialEq, Eq)]
+#[derive(Clone, Copy, PartialEq, Eq)]
 pub struct Table<T, const ROOM: usize> {
     pub cells: [T; ROOM],
-    // How many cells a call is lent.
+    // How many cells a call is lent. It may be any number: where it is more than there are, they are all lent.
     pub lent: usize,
-    ghost fits: { lent ≤ ROOM },
-}
-
-// No derive writes it for a struct of any type with a ghost field.
-impl<T: Copy, const ROOM: usize> Clone for Table<T, ROOM> {
-    fn clone(&self) -> Result<Self, AllocError> {
-        Ok(*self)
-    }
 }
 
 impl<T: Copy, const ROOM: usize> Table<T, ROOM> {
@@ -40,11 +31,13 @@ impl<T: Copy, const ROOM: usize> Table<T, ROOM> {
     pub fn lent(&self) -> &[T]
         ensures { result.now ≡ take self.now.lent self.now.cells }
     {
-        &self.cells[..self.lent]
+        &self.cells[..self.lent.min(ROOM)]
     }
 
-    pub fn lent_mut(&mut self) -> &mut [T] {
-        let lent = self.lent;
+    pub fn lent_mut(&mut self) -> &mut [T]
+        ensures { result.now ≡ take self.old.lent self.old.cells }
+    {
+        let lent = self.lent.min(ROOM);
         let cells = &mut self.cells;
         &mut cells[..lent]
     }
@@ -55,7 +48,7 @@ impl<T: Copy, const ROOM: usize> Table<T, ROOM> {
         ensures refused { self.old.lent ≤ at → self.new ≡ self.old }
         ensures writes { IfOk result (λ _. self.new.cells ≡ set self.old.cells at cell) }
     {
-        if self.lent <= at {
+        if self.lent.min(ROOM) <= at {
             return Err(BadCommand);
         }
         self.cells[at] = cell;

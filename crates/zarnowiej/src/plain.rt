@@ -99,12 +99,17 @@ impl From<Session> for state::Session {
     ghost from_gives = { λ s r. r ≡ session_in s };
 
     fn from(s: Session) -> state::Session {
+        // Here and below by a loop, since an array's `map`, which goes through an owned iterator, costs twice as much.
+        let mut marks = [state::Mark::default(); state::Session::MOST_LEVELS];
+        for i in 0..state::Session::MOST_LEVELS {
+            marks[i] = state::Mark::from(s.marks[i]);
+        }
         state::Session {
             forms: s.forms,
             lines: s.lines,
             literals: s.literals,
             open: s.open,
-            marks: s.marks.map(state::Mark::from),
+            marks,
         }
     }
 }
@@ -114,12 +119,16 @@ impl From<state::Session> for Session {
     ghost from_gives = { λ s r. r ≡ session_out s };
 
     fn from(s: state::Session) -> Session {
+        let mut marks = [Mark::from(state::Mark::default()); state::Session::MOST_LEVELS];
+        for i in 0..state::Session::MOST_LEVELS {
+            marks[i] = Mark::from(s.marks[i]);
+        }
         Session {
             forms: s.forms,
             lines: s.lines,
             literals: s.literals,
             open: s.open,
-            marks: s.marks.map(Mark::from),
+            marks,
         }
     }
 }

@@ -2,6 +2,8 @@
 // work on it.
 #![tactic(auto)]
 
+ghost use Rattle.std.specs.Prelude.{◌≤◌};
+
 pub mod calls;
 pub mod table;
 
@@ -26,7 +28,9 @@ pub struct Trial {
 
 impl Trial {
     // The fresh session, over tables that hold only this number, with so many cells lent.
-    pub fn filled(number: u16, forms: usize, pool: usize, lines: usize) -> Trial {
+    pub fn filled(number: u16, forms: usize, pool: usize, lines: usize) -> Trial
+        ensures fits { (result.forms.lent ≤ FORM_ROOM) × (result.pool.lent ≤ POOL_ROOM) × (result.lines.lent ≤ LINE_ROOM) }
+    {
         Trial {
             session: Session::fresh(),
             forms: Table::filled(i32::from(number), forms),

@@ -1,13 +1,43 @@
 // A table with room for more cells than its limit names, of which a call is lent the first ones.
-ghost use Rattle.std.specs.Prelude.{◌≡◌, ◌≤◌, take, set, IfOk};
+ghost use Rattle.std.specs.Prelude.{◌≡◌, ◌≤◌, ◌<◌, ℕ, ⊤, take, set, IfOk, MatchResult, slice_index_or};
+ghost use Rattle.std.specs.Array.{AllZipBelow};
+ghost use Rattle.std.specs.Array.Iter.{IntoIterFitsInMemory};
+ghost use Rattle.std.specs.Borrow.{sem};
+ghost use Rattle.trial.specs.Lending.{LendsFront};
 
 use crate::BadCommand;
+use std::alloc::AllocError;
 
-#[derive(Clone, Copy, PartialEq, Eq)]
+#[derive(Copy, PartialEq, Eq)]
 pub struct Table<T, const ROOM: usize> {
     pub cells: [T; ROOM],
     // How many cells a call is lent. It may be any number: where it is more than there are, they are all lent.
     pub lent: usize,
+}
+
+// By hand, since a derive clones each cell, and that can fail.
+impl<T: Copy, const ROOM: usize> Clone for Table<T, ROOM> {
+    ghost is_clone = { λ t u. u ≡ t };
+
+    ghost is_infallible = { λ _. ⊤ };
+
+    fn clone(&self) -> Result<Self, AllocError> {
+        Ok(*self)
+    }
+}
+
+impl<T: Clone, const ROOM: usize> Table<T, ROOM> {
+    // Each cell is cloned, for cells that are not copied.
+    pub fn clone_each(&self) -> Result<Self, AllocError>
+        ensures lends { IfOk result (λ t. t.lent ≡ self.now.lent) }
+        ensures cells { MatchResult result (λ t. AllZipBelow T.is_clone self.now.cells t.cells ROOM) (λ _. ¬ (IntoIterFitsInMemory T.row ROOM.row × ((i : ℕ) (d : T) → i < ROOM → T.is_infallible (slice_index_or self.now.cells i d)))) }
+    {
+        let cells = self.cells.clone()?;
+        Ok(Table {
+            cells,
+            lent: self.lent,
+        })
+    }
 }
 
 impl<T: Copy, const ROOM: usize> Table<T, ROOM> {
@@ -34,8 +64,10 @@ impl<T: Copy, const ROOM: usize> Table<T, ROOM> {
         &self.cells[..self.lent.min(ROOM)]
     }
 
+    // Once they come back, the rest and the count are as they were.
     pub fn lent_mut(&mut self) -> &mut [T]
-        ensures { result.now ≡ take self.old.lent self.old.cells }
+        ensures* writes_back { sem 𝓛 (LendsFront T.row ROOM.row self.entry result) }
+        ensures value { result.now ≡ take self.old.lent self.old.cells }
     {
         let lent = self.lent.min(ROOM);
         let cells = &mut self.cells;
@@ -53,5 +85,52 @@ impl<T: Copy, const ROOM: usize> Table<T, ROOM> {
         }
         self.cells[at] = cell;
         Ok(())
+    }
+}
+
+#[cfg(test)]
+mod tests {
+    use super::*;
+
+    // It can be copied, and not cloned.
+    #[derive(Copy, PartialEq, Eq)]
+    struct Copied;
+
+    impl Clone for Copied {
+        fn clone(&self) -> Result<Self, AllocError> {
+            Err(AllocError)
+        }
+    }
+
+    #[test]
+    fn a_table_is_copied_where_no_cell_can_be_cloned(rt: HostRuntime) {
+        let table = Table::<Copied, 3>::filled(Copied, 2);
+        let copy: Result<_, _> = table.clone();
+        assert!(rt; copy == Ok(table));
+        assert!(rt; table.clone_each() == Err(AllocError));
+    }
+
+    #[test]
+    fn what_is_written_to_the_front_stays(rt: HostRuntime) {
+        let mut table = Table::<u16, 3> {
+            cells: [7; 3],
+            lent: 2,
+        };
+        table.lent_mut().fill(9);
+        assert!(rt; table.cells == [9, 9, 7]);
+        assert_eq!(rt; table.lent, 2);
+        table.lent = 4;
+        table.lent_mut().fill(8);
+        assert!(rt; table.cells == [8, 8, 8]);
+        assert_eq!(rt; table.lent, 4);
+    }
+
+    #[test]
+    fn each_cell_is_cloned(rt: HostRuntime) {
+        let mut table = Table::<u16, 3>::filled(7, 2);
+        assert!(rt; table.set(1, 8).is_ok());
+        assert!(rt; table.clone_each() == Ok(table));
+        let copy: Result<_, _> = table.clone();
+        assert!(rt; copy == Ok(table));
     }
 }
